@@ -34,11 +34,11 @@ pub enum Case {
 /// Where a call was refused. `Common` are taggers, identities and messages.
 #[derive(Clone, Copy, PartialEq, Eq, Debug)]
 pub enum Layer {
-    Common = 0,
-    Memory = 1,
-    Loader = 2,
-    Terminal = 3,
-    Server = 4,
+    Common,
+    Memory,
+    Loader,
+    Terminal,
+    Server,
 }
 
 /// A refusal: why, where, and the row whose reading, writing or blanking was refused.
@@ -63,7 +63,13 @@ impl Layer {
     pub fn number(self) -> u8
         ensures { λ r. ⌜ r ≡ layerNumber self ⌝ }
     {
-        self as u8
+        match self {
+            Layer::Common => 0,
+            Layer::Memory => 1,
+            Layer::Loader => 2,
+            Layer::Terminal => 3,
+            Layer::Server => 4,
+        }
     }
 }
 
@@ -87,5 +93,14 @@ impl Fault {
 pub fn leading_number(row: &[u8; ROW_BYTES]) -> u64
     ensures { λ r. ⌜ r ≡ leading 8 (now (row .entry)) ⌝ }
 {
-    u64::from_be_bytes([row[0], row[1], row[2], row[3], row[4], row[5], row[6], row[7]])
+    u64::from_be_bytes([
+        row[0],
+        row[1],
+        row[2],
+        row[3],
+        row[4],
+        row[5],
+        row[6],
+        row[7],
+    ])
 }

@@ -1,2 +1,5 @@
 pub mod Model
 pub mod Laws
+pub mod Shown
+pub mod View
+pub mod Opened

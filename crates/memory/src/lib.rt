@@ -2,9 +2,15 @@
 ghost use mathlib.Core.Path.{_≡_};
 ghost use lib.ListN.{length};
 ghost use Rattle.memory.specs.Model.{Held, Mem, reading, probing, writing, blanking, raising, poweringUp, switchingOff};
-ghost use Rattle.memory.specs.Laws.{MemoryLaws};
+
+mod window;
+
 use base::Fault;
 use base::ROW_BYTES;
+pub use window::Window;
+pub use window::WindowMemory;
+pub use window::WindowProbe;
+pub use window::WindowRows;
 
 /// What a row is: written with 64 bytes, blank, or spoilt by a cut.
 #[derive(Clone, Copy, PartialEq, Eq, Debug)]
@@ -66,7 +72,7 @@ pub trait Memory: Rows {
 
     /// Turns the memory off.
     fn off(&mut self)
-        ensures { λ _. ⌜ meaning (now (self .exit)) ≡ switchingOff (meaning (now (self .entry))) ⌝ };
+        ensures after { λ _. ⌜ meaning (now (self .exit)) ≡ switchingOff (meaning (now (self .entry))) ⌝ };
 
     /// The count, told with or without power.
     fn count(&self) -> u32

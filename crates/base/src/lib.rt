@@ -1,5 +1,6 @@
 // What every crate above shares: faults, and numbers in bytes.
 ghost use mathlib.Core.Path.{_≡_};
+ghost use Rattle.std.specs.Orderings.{Decides};
 ghost use Rattle.base.specs.Faults.{number as numberOf, layerNumber, faultAt, fault};
 ghost use Rattle.base.specs.Numbers.{leading};
 
@@ -10,7 +11,7 @@ pub const NOWHERE: u16 = 65535;
 pub const ROW_BYTES: usize = 64;
 
 /// Why a call was refused. Faults of the input come first, then faults of the state.
-#[derive(Clone, Copy, PartialEq, Eq, Debug)]
+#[derive(Clone, Copy, Debug)]
 pub enum Case {
     Empty = 1,
     NoKind = 2,
@@ -57,6 +58,23 @@ impl Case {
         self as u8
     }
 }
+
+// Whether two cases are one: no two have one number.
+fn same_case(a: Case, b: Case) -> bool
+    ensures { λ r. ⌜ Decides r (a ≡ b) ⌝ }
+{
+    a.number() == b.number()
+}
+
+pub impl PartialEq<Case> for Case as CasePartialEq {
+    ghost equals = { λ a b r. Decides r (a ≡ b) };
+
+    fn eq(&self, other: &Case) -> bool {
+        same_case(*self, *other)
+    }
+}
+
+pub impl Eq for Case as CaseEq {}
 
 impl Layer {
     /// The number that a user is told.

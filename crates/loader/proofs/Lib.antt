@@ -1,0 +1,4 @@
+pub mod Sums
+pub mod Slots
+pub mod Adding
+pub mod Choosing

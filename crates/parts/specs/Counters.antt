@@ -1,0 +1,13 @@
+-- What the two counters count. Assumes nothing.
+use Prim.Native.Nat.{ℕ}
+use Rattle.parts.specs.declared.counter.Register.{Register}
+use Rattle.parts.specs.declared.strip.Strip.{Strip}
+use Rattle.parts.specs.Strip.{zeros}
+
+-- A register holds its count.
+abbrev pub registerCount : Register → ℕ
+registerCount c = c .count
+
+-- A strip counts its cleared bits.
+abbrev pub stripCount : Strip → ℕ
+stripCount s = zeros (s .bytes)

@@ -1,0 +1,7 @@
+pub mod Bounds
+pub mod Cells
+pub mod Strip
+pub mod Counters
+pub mod Supply
+pub mod Part
+pub mod Kinds

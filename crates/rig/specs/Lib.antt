@@ -1,0 +1,6 @@
+pub mod Either
+pub mod Working
+pub mod Desk
+pub mod Store
+pub mod Transcript
+pub mod Edges

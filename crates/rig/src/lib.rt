@@ -1,0 +1,7 @@
+// What stands on the bench, and what a script makes of it.
+mod desk;
+mod either;
+mod run;
+mod work;
+
+pub use run::transcript;

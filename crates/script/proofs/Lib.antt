@@ -1,0 +1,6 @@
+mod Scans
+pub mod Splits
+mod Readings
+mod Arguments
+mod Prints
+mod Trips

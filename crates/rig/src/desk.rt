@@ -25,9 +25,9 @@ use parts::PlainCell;
 use parts::RegisterCounter;
 use parts::Rewriting;
 use parts::StripCounter;
-use script::commands::Command;
-use script::commands::Style;
-use script::replies::Reply;
+use script::Command;
+use script::Reply;
+use script::Style;
 use std::alloc::AllocError;
 use std::alloc::Global;
 

@@ -14,8 +14,8 @@ use memory::Memory;
 use memory::Probe;
 use memory::RowKind;
 use memory::Rows;
-use script::commands::Command;
-use script::replies::Reply;
+use script::Command;
+use script::Reply;
 use std::alloc::AllocError;
 use std::alloc::Global;
 

@@ -18,6 +18,7 @@ use Rattle.script.specs.Words.{bits8, bits16, bits32, rowBytes}
 unfoldable pub isText : List ℕ → List ℕ → Bool
 isText word text = sameBytes word text
 
+-- The make that a word names.
 abbrev pub styleOf : List ℕ → Option Style
 styleOf word = cond (isText word (codes "rewriting")) (Some Rewriting) (cond (isText word (codes "flash")) (Some Flash) None)
 
@@ -89,6 +90,7 @@ abbrev pub readBy : List Reader → List ℕ → List (List ℕ) → Option Comm
 readBy [] name args = None
 readBy (r ∷ rs) name args = cond (isText name (r .name)) (r .read args) (readBy rs name args)
 
+-- The first word is the name.
 abbrev pub byWords : List (List ℕ) → Option Command
 byWords [] = None
 byWords (name ∷ args) = readBy readers name args

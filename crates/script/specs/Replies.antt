@@ -60,9 +60,17 @@ kindLetter Spoilt = 115
 unfoldable pub numbered : List ℕ → ℕ → List ℕ
 numbered label n = label ++ decimal n
 
-abbrev pub faultText : Fault → List ℕ
-faultText f = numbered (codes "fault ") (number (f .case)) ++ (numbered (codes " layer ") (layerNumber (f .layer)) ++ numbered (codes " row ") (f .row))
+-- A fault: its three numbers.
+abbrev pub caseText : Fault → List ℕ
+caseText f = numbered (codes "fault ") (number (f .case))
 
+abbrev pub layerText : Fault → List ℕ
+layerText f = numbered (codes " layer ") (layerNumber (f .layer))
+
+abbrev pub faultText : Fault → List ℕ
+faultText f = caseText f ++ (layerText f ++ numbered (codes " row ") (f .row))
+
+-- What follows the name.
 abbrev pub textOf : Said → List ℕ
 textOf done = codes "ok"
 textOf (refused f) = faultText f

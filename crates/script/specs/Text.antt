@@ -17,7 +17,7 @@ before c xs = take (until c xs) xs
 abbrev pub from : ℕ → List ℕ → List ℕ
 from c xs = drop (until c xs) xs
 
--- What a byte begins, put before the first of some texts.
+-- A byte put before the first of some texts, or alone where there is none.
 abbrev pub onto : ℕ → List (List ℕ) → List (List ℕ)
 onto x [] = (x ∷ []) ∷ []
 onto x (t ∷ ts) = (x ∷ t) ∷ ts
@@ -31,6 +31,7 @@ linesOf (x ∷ xs) = cond (eqb x 10) ([] ∷ linesOf xs) (onto x (linesOf xs))
 abbrev pub white : ℕ → Bool
 white x = (leb 9 x && leb x 13) || eqb x 32
 
+-- A text without the white space at its front, at its end.
 abbrev pub trimmedFront : List ℕ → List ℕ
 trimmedFront xs = drop (leading white xs) xs
 
@@ -51,5 +52,6 @@ abbrev pub argumentsOf : List ℕ → List (List ℕ)
 argumentsOf [] = []
 argumentsOf (x ∷ xs) = wordsOf xs
 
+-- The first word, as it stands: what a line is called.
 abbrev pub firstWord : List ℕ → List ℕ
 firstWord line = before 32 line

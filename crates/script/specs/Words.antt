@@ -26,9 +26,11 @@ inBase base (c ∷ cs) = numberFrom base 0 (c ∷ cs)
 abbrev pub isHex : List ℕ → Bool
 isHex word = eqb (getD word 0 0) 48 && eqb (getD word 1 0) 120
 
+-- The number that a word writes.
 abbrev pub numberOf : List ℕ → Option ℕ
 numberOf word = cond (isHex word) (inBase 16 (drop 2 word)) (inBase 10 word)
 
+-- A number that is not too great, or none.
 abbrev pub atMost : ℕ → Option ℕ → Option ℕ
 atMost most None = None
 atMost most (Some n) = cond (leb n most) (Some n) None

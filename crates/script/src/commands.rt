@@ -36,12 +36,14 @@ pub enum Command {
     Load(u16),
 }
 
+// Whether a word is a given text.
 fn is_text(word: &[u8], text: &[u8]) -> bool
     ensures { λ r. ⌜ r ≡ isText (now (word .entry)) (now (text .entry)) ⌝ }
 {
     word == text
 }
 
+// The make that a word names.
 fn style_named(word: &[u8]) -> Option<Style>
     ensures { λ r. ⌜ r ≡ styleOf (now (word .entry)) ⌝ }
 {
@@ -80,6 +82,7 @@ fn two_words(args: &[u8]) -> Option<(&[u8], &[u8])>
     Some((first, one_word(rest)?))
 }
 
+// The rest of `part`: a make and a number of rows.
 fn part(args: &[u8]) -> Option<Command>
     ensures { λ r. ⌜ r ≡ withTwo (λ a b. both Command.Part (styleOf a) (bits16 b)) (argumentsOf (now (args .entry))) ⌝ }
 {
@@ -87,6 +90,7 @@ fn part(args: &[u8]) -> Option<Command>
     Some(Command::Part(style_named(make)?, number16(rows)?))
 }
 
+// The rest of `window`: the first row and a number of rows.
 fn window(args: &[u8]) -> Option<Command>
     ensures { λ r. ⌜ r ≡ withTwo (λ a b. both Command.Window (bits16 a) (bits16 b)) (argumentsOf (now (args .entry))) ⌝ }
 {
@@ -94,6 +98,7 @@ fn window(args: &[u8]) -> Option<Command>
     Some(Command::Window(number16(first)?, number16(rows)?))
 }
 
+// The rest of `power`: a charge and a tear.
 fn power(args: &[u8]) -> Option<Command>
     ensures { λ r. ⌜ r ≡ withTwo (λ a b. both Command.Power (bits32 a) (bits8 b)) (argumentsOf (now (args .entry))) ⌝ }
 {
@@ -101,6 +106,7 @@ fn power(args: &[u8]) -> Option<Command>
     Some(Command::Power(number32(charge)?, number8(tear)?))
 }
 
+// The rest of `write`: a row and its bytes.
 fn write(args: &[u8]) -> Option<Command>
     ensures { λ r. ⌜ r ≡ withTwo (λ a b. both Command.Write (bits16 a) (rowBytes b)) (argumentsOf (now (args .entry))) ⌝ }
 {
@@ -169,10 +175,17 @@ fn named(name: &[u8], args: &[u8]) -> Option<Command>
     named_of_memory(name, args)
 }
 
-/// What a cleaned line commands, if it is a command.
-pub fn parse(line: &[u8]) -> Option<Command>
+// What a cleaned line commands, by its first word and what follows it.
+fn read_command(line: &[u8]) -> Option<Command>
     ensures { λ r. ⌜ r ≡ commandOf (now (line .entry)) ⌝ }
 {
     let (name, args) = line.split_at(place(line, SPACE));
     named(name, args)
+}
+
+/// What a cleaned line commands, if it is a command.
+pub fn parse(line: &[u8]) -> Option<Command>
+    ensures { λ r. ⌜ r ≡ commandOf (now (line .entry)) ⌝ }
+{
+    read_command(line)
 }

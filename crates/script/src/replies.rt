@@ -7,7 +7,7 @@ ghost use lib.Chars.{codes};
 ghost use Rattle.std.specs.Of.Vec.{vec-items};
 ghost use Rattle.std.specs.Results.{isOk};
 ghost use Rattle.std.specs.Written.{decimal};
-ghost use Rattle.script.specs.Replies.{said, hexDigit, hexText, kindText, kindLetter, numbered, faultText, textOf, lineText, Puts};
+ghost use Rattle.script.specs.Replies.{said, hexDigit, hexText, kindText, kindLetter, numbered, caseText, layerText, faultText, textOf, lineText, Puts};
 use base::Fault;
 use base::ROW_BYTES;
 use memory::RowKind;
@@ -27,12 +27,14 @@ pub enum Reply {
     Loaded(u8, u64),
 }
 
+// Writes bytes behind what is there.
 fn put(out: &mut Vec<u8>, bytes: &[u8]) -> Result<(), AllocError>
     ensures { λ r. ⌜ Puts r (vec-items (now (out .entry))) (now (bytes .entry)) (vec-items (now (out .exit))) ⌝ }
 {
     out.extend_from_slice(bytes)
 }
 
+// A digit of a number.
 fn put_digit(out: &mut Vec<u8>, digit: u8) -> Result<(), AllocError>
     requires { ⌜ digit < 10 ⌝ }
     ensures { λ r. ⌜ Puts r (vec-items (now (out .entry))) ((48 + digit) ∷ []) (vec-items (now (out .exit))) ⌝ }
@@ -59,14 +61,30 @@ fn put_numbered(out: &mut Vec<u8>, label: &[u8], n: u64) -> Result<(), AllocErro
     put_number(out, n)
 }
 
+// Why a call was refused.
+fn put_case(out: &mut Vec<u8>, fault: Fault) -> Result<(), AllocError>
+    ensures { λ r. ⌜ Puts r (vec-items (now (out .entry))) (caseText fault) (vec-items (now (out .exit))) ⌝ }
+{
+    put_numbered(out, b"fault ", fault.case.number() as u64)
+}
+
+// Where it was refused.
+fn put_layer(out: &mut Vec<u8>, fault: Fault) -> Result<(), AllocError>
+    ensures { λ r. ⌜ Puts r (vec-items (now (out .entry))) (layerText fault) (vec-items (now (out .exit))) ⌝ }
+{
+    put_numbered(out, b" layer ", fault.layer.number() as u64)
+}
+
+// A fault: its three numbers.
 fn put_fault(out: &mut Vec<u8>, fault: Fault) -> Result<(), AllocError>
     ensures { λ r. ⌜ Puts r (vec-items (now (out .entry))) (faultText fault) (vec-items (now (out .exit))) ⌝ }
 {
-    put_numbered(out, b"fault ", fault.case.number() as u64)?;
-    put_numbered(out, b" layer ", fault.layer.number() as u64)?;
+    put_case(out, fault)?;
+    put_layer(out, fault)?;
     put_numbered(out, b" row ", fault.row as u64)
 }
 
+// A digit of a byte, in lower case.
 fn hex_digit(digit: u8) -> u8
     requires { ⌜ digit < 16 ⌝ }
     ensures { λ r. ⌜ r ≡ hexDigit digit ⌝ }
@@ -88,6 +106,7 @@ fn put_hex(out: &mut Vec<u8>, bytes: &[u8]) -> Result<(), AllocError>
     Ok(())
 }
 
+// A row's kind, before its bytes.
 fn kind_text(kind: RowKind) -> &'static [u8]
     ensures { λ r. ⌜ now r ≡ kindText kind ⌝ }
 {
@@ -98,6 +117,7 @@ fn kind_text(kind: RowKind) -> &'static [u8]
     }
 }
 
+// A row's kind as a letter.
 fn kind_letter(kind: RowKind) -> u8
     ensures { λ r. ⌜ r ≡ kindLetter kind ⌝ }
 {
@@ -118,6 +138,7 @@ fn put_letters(out: &mut Vec<u8>, kinds: &[RowKind]) -> Result<(), AllocError>
     Ok(())
 }
 
+// A row's kind and bytes.
 fn put_row(out: &mut Vec<u8>, kind: RowKind, bytes: &[u8; ROW_BYTES]) -> Result<(), AllocError>
     ensures { λ r. ⌜ Puts r (vec-items (now (out .entry))) (kindText kind ++ hexText (now (bytes .entry))) (vec-items (now (out .exit))) ⌝ }
 {
@@ -125,6 +146,7 @@ fn put_row(out: &mut Vec<u8>, kind: RowKind, bytes: &[u8; ROW_BYTES]) -> Result<
     put_hex(out, bytes)
 }
 
+// The count and its ceiling.
 fn put_count(out: &mut Vec<u8>, count: u32, ceiling: u32) -> Result<(), AllocError>
     ensures { λ r. ⌜ Puts r (vec-items (now (out .entry))) (decimal count ++ numbered (codes " of ") ceiling) (vec-items (now (out .exit))) ⌝ }
 {
@@ -132,6 +154,7 @@ fn put_count(out: &mut Vec<u8>, count: u32, ceiling: u32) -> Result<(), AllocErr
     put_numbered(out, b" of ", ceiling as u64)
 }
 
+// What the loader found.
 fn put_loaded(out: &mut Vec<u8>, slot: u8, version: u64) -> Result<(), AllocError>
     ensures { λ r. ⌜ Puts r (vec-items (now (out .entry))) (numbered (codes "slot ") slot ++ numbered (codes " version ") version) (vec-items (now (out .exit))) ⌝ }
 {
@@ -139,6 +162,7 @@ fn put_loaded(out: &mut Vec<u8>, slot: u8, version: u64) -> Result<(), AllocErro
     put_numbered(out, b" version ", version)
 }
 
+// What follows the name.
 fn put_text(out: &mut Vec<u8>, reply: &Reply) -> Result<(), AllocError>
     ensures { λ r. ⌜ Puts r (vec-items (now (out .entry))) (textOf (said (now (reply .entry)))) (vec-items (now (out .exit))) ⌝ }
 {
@@ -153,13 +177,21 @@ fn put_text(out: &mut Vec<u8>, reply: &Reply) -> Result<(), AllocError>
     }
 }
 
+// The end of a line.
+fn put_end(out: &mut Vec<u8>) -> Result<(), AllocError>
+    ensures { λ r. ⌜ Puts r (vec-items (now (out .entry))) (10 ∷ []) (vec-items (now (out .exit))) ⌝ }
+{
+    put(out, &[NEWLINE])
+}
+
+// The whole line.
 fn put_line(out: &mut Vec<u8>, name: &[u8], reply: &Reply) -> Result<(), AllocError>
     ensures { λ r. ⌜ Puts r (vec-items (now (out .entry))) (lineText (now (name .entry)) (said (now (reply .entry)))) (vec-items (now (out .exit))) ⌝ }
 {
     put(out, name)?;
     put(out, b": ")?;
     put_text(out, reply)?;
-    put(out, &[NEWLINE])
+    put_end(out)
 }
 
 /// Prints a command's name and its reply on a line of their own. Where memory fails, nothing is printed.

@@ -3,6 +3,7 @@ ghost use mathlib.Core.Path.{_≡_};
 ghost use mathlib.Core.List.{_∷_};
 ghost use Prim.Native.Nat.{ℕ, _+_, _-_, _<_, _≤_};
 ghost use lib.ListN.{length, drop};
+ghost use Rattle.script.specs.Laws.{ScriptLaws, Examples};
 ghost use Rattle.script.specs.Text.{until, before, from, white, linesOf, trimmedFront, trimmedEnd, cleanedText, firstWord, wordsOf, argumentsOf};
 
 const NEWLINE: u8 = 10;
@@ -23,6 +24,7 @@ pub(crate) fn place(text: &[u8], byte: u8) -> usize
     n
 }
 
+// Whether a byte is white space.
 fn is_white(byte: u8) -> bool
     ensures { λ r. ⌜ r ≡ white byte ⌝ }
 {
@@ -76,14 +78,28 @@ fn split_line(script: &[u8]) -> (&[u8], &[u8])
     (&script[..end], after(script, end))
 }
 
+// The first line, and what follows it.
+fn line_and_rest(script: &[u8]) -> (&[u8], &[u8])
+    ensures lines { λ r. ⌜ (0 < length (now (script .entry)) → linesOf (now (script .entry)) ≡ now (r .0) ∷ linesOf (now (r .1))) ⌝ }
+    ensures line { λ r. ⌜ now (r .0) ≡ before 10 (now (script .entry)) ⌝ }
+    ensures rest { λ r. ⌜ now (r .1) ≡ drop (until 10 (now (script .entry)) + 1) (now (script .entry)) ⌝ }
+    ensures shorter { λ r. ⌜ (0 < length (now (script .entry)) → length (now (r .1)) < length (now (script .entry))) ⌝ }
+    ensures laws { λ _. ⌜ ScriptLaws ⌝ }
+    ensures examples { λ _. ⌜ Examples ⌝ }
+{
+    split_line(script)
+}
+
 /// The first line of a script, and what follows it. An empty script has no line.
 pub fn first_line(script: &[u8]) -> (&[u8], &[u8])
     ensures lines { λ r. ⌜ (0 < length (now (script .entry)) → linesOf (now (script .entry)) ≡ now (r .0) ∷ linesOf (now (r .1))) ⌝ }
     ensures line { λ r. ⌜ now (r .0) ≡ before 10 (now (script .entry)) ⌝ }
     ensures rest { λ r. ⌜ now (r .1) ≡ drop (until 10 (now (script .entry)) + 1) (now (script .entry)) ⌝ }
     ensures shorter { λ r. ⌜ (0 < length (now (script .entry)) → length (now (r .1)) < length (now (script .entry))) ⌝ }
+    ensures laws { λ _. ⌜ ScriptLaws ⌝ }
+    ensures examples { λ _. ⌜ Examples ⌝ }
 {
-    split_line(script)
+    line_and_rest(script)
 }
 
 // What follows the byte at a place, if there is one.

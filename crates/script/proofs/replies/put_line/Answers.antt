@@ -24,14 +24,14 @@ returns-in-Break-put-text c =
 pub returns : need.returns
 unfolding lineText
 returns c =
-    let r = c .put-3 .result in
+    let r = c .put-end .result in
     let old = vec-items (c .args .out .now) in
     let one = vec-items (c .put .last .out) in
     let two = vec-items (c .put-2 .last .out) in
     let three = vec-items (c .put-text .last .out) in
-    let new = vec-items (c .put-3 .last .out) in
+    let new = vec-items (c .put-end .last .out) in
     let text = textOf (said (c .args .reply .now)) in
     let end = 10 ∷ [] in
     puts-then r old (c .args .name .now) one (codes ": " ++ (text ++ end)) new (c .in-Continue-put .ensures tt)
     (puts-then r one (codes ": ") two (text ++ end) new (c .in-Continue-put-2 .ensures tt)
-    (puts-then r two text three end new (c .in-Continue-put-text .ensures tt) (c .put-3 .ensures)))
+    (puts-then r two text three end new (c .in-Continue-put-text .ensures tt) (c .put-end .ensures)))

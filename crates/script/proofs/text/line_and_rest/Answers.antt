@@ -1,5 +1,6 @@
 use Rattle.script.proofs.Splits.{lines-found, rest-shorter}
-use Rattle.script.proofs.text.first_line.Needs as need
+use Rattle.script.proofs.Trips.{laws as lawful, examples as stand}
+use Rattle.script.proofs.text.line_and_rest.Needs as need
 
 pub returns : need.returns
 returns c =
@@ -9,4 +10,6 @@ returns c =
       line = told .line;
       rest = told .rest;
       shorter = rest-shorter xs (c .split-line .result .1 .now) (told .rest);
+      laws = lawful;
+      examples = stand;
     }

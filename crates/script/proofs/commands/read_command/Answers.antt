@@ -1,6 +1,6 @@
 use mathlib.Core.Path.{_∙_}
 use Rattle.script.proofs.Arguments.{by-words}
-use Rattle.script.proofs.commands.parse.Needs as need
+use Rattle.script.proofs.commands.read_command.Needs as need
 
 pub returns : need.returns
 returns c =

@@ -14,7 +14,7 @@ use Rattle.std.specs.declared.result.Result.{Result}
 use Rattle.std.specs.declared.result.Result.the-variants.{Ok, Err}
 use Rattle.script.specs.declared.commands.Command.{Command}
 use Rattle.script.specs.Commands.{commandOf}
-use Rattle.script.specs.Replies.{Said, lineText}
+use Rattle.reply.specs.Replies.{Said, lineText}
 use Rattle.script.specs.Text.{linesOf, cleanedText, firstWord}
 use Rattle.rig.specs.Desk.{Desk}
 use Rattle.rig.specs.Transcript.{obeying, lineDone, linesDone}

@@ -18,7 +18,7 @@ use Rattle.script.specs.declared.commands.Style.{Style}
 use Rattle.script.specs.declared.commands.Style.the-variants.{Rewriting, Flash}
 use Rattle.script.specs.declared.commands.Command.{Command}
 use Rattle.script.specs.declared.commands.Command.the-variants.{Part, Window, Power, Off, Write, Blank, Raise, Read, Count, Rows, Load}
-use Rattle.script.specs.Replies.{Said, done, refused, misuse}
+use Rattle.reply.specs.Replies.{Said, done, refused, misuse}
 use Rattle.rig.specs.Working.{working}
 
 -- A memory, and how many windows lie between it and its part.

@@ -3,12 +3,15 @@ use mathlib.Core.Bool.{true, false}
 use mathlib.Core.List.{List, [], _∷_, _++_}
 use mathlib.Core.Path.{_≡_}
 use Prim.Native.Nat.{ℕ}
+use lib.Chars.{codes}
 use lib.ListN.{replicate}
 use Rattle.std.specs.declared.result.Result.the-variants.{Ok, Err}
-use Rattle.base.specs.declared.Case.the-variants.{BadShape, PowerCut, NoImage}
+use Rattle.base.specs.declared.Case.the-variants.{BadShape, NoRow, PowerCut, NoImage}
 use Rattle.base.specs.declared.Layer.the-variants.{Memory, Loader}
-use Rattle.base.specs.Faults.{fault}
+use Rattle.base.specs.Faults.{faultAt, fault as faultOf}
 use Rattle.memory.specs.Model.{Row, written, blank, spoilt, Held, Mem, raising}
+use Rattle.memory.specs.declared.RowKind.the-variants.{Written, Blank, Spoilt}
+use Rattle.reply.specs.Replies.{lineText, refused, count, rows, loaded}
 use Rattle.parts.specs.Strip.{zeros, Legal, threeStrip}
 use Rattle.loader.specs.Image.{sumBytes, whole, loading}
 
@@ -52,22 +55,29 @@ pub record LoadEdges : Type 0 where
   pub both : loading (on (imageOne ++ imageTwo)) 2 ≡ Ok (1, 1)
   pub second : loading (on ((row 1 0 0 ∷ spoilt ∷ []) ++ imageTwo)) 2 ≡ Ok (2, 2)
   -- slots of 1 and 65 rows are refused, of 2 and 64 are taken
-  pub below : loading blanks 1 ≡ Err (fault BadShape Loader)
-  pub least : loading blanks 2 ≡ Err (fault NoImage Loader)
-  pub most : loading blanks 64 ≡ Err (fault NoImage Loader)
-  pub above : loading blanks 65 ≡ Err (fault BadShape Loader)
+  pub below : loading blanks 1 ≡ Err (faultOf BadShape Loader)
+  pub least : loading blanks 2 ≡ Err (faultOf NoImage Loader)
+  pub most : loading blanks 64 ≡ Err (faultOf NoImage Loader)
+  pub above : loading blanks 65 ≡ Err (faultOf BadShape Loader)
 
 -- What a cut in a raising leaves of the count: tear 1 alone has the new one.
 pub record RaiseEdges : Type 0 where
   pub old : raising (five 0) .1 .count ≡ 5
   pub new : raising (five 1) .1 .count ≡ 6
   pub torn : raising (five 2) .1 .count ≡ 5
-  pub cut : (t : ℕ) → raising (five t) .0 ≡ Err (fault PowerCut Memory)
+  pub cut : (t : ℕ) → raising (five t) .0 ≡ Err (faultOf PowerCut Memory)
 
 -- What a strip of 0x1f and then all 255 has counted.
 pub record StripEdges : Type 0 where
   pub legal : Legal threeStrip
   pub three : zeros threeStrip ≡ 3
+
+-- Some lines, as they are printed.
+pub record PrintEdges : Type 0 where
+  pub fault : lineText (codes "blank") (refused (faultAt NoRow Memory 9)) ≡ codes "blank: fault 7 layer 1 row 9\n"
+  pub count : lineText (codes "count") (count 3 4096) ≡ codes "count: 3 of 4096\n"
+  pub rows : lineText (codes "rows") (rows (Written ∷ (Blank ∷ (Spoilt ∷ [])))) ≡ codes "rows: wbs\n"
+  pub loads : lineText (codes "load") (loaded 1 20) ≡ codes "load: slot 1 version 20\n"
 
 -- All of them.
 pub record Edges : Type 0 where
@@ -75,3 +85,4 @@ pub record Edges : Type 0 where
   pub load : LoadEdges
   pub raise : RaiseEdges
   pub strip : StripEdges
+  pub print : PrintEdges

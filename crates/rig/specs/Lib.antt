@@ -1,4 +1,3 @@
-pub mod Either
 pub mod Working
 pub mod Desk
 pub mod Store

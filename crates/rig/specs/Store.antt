@@ -16,10 +16,10 @@ use Rattle.parts.specs.declared.part.Part.{Part}
 use Rattle.parts.specs.declared.NotMade.{NotMade}
 use Rattle.parts.specs.Part.{InRange, Refusal}
 use Rattle.script.specs.declared.commands.Style.{Style}
-use Rattle.rig.specs.declared.either.Either.{Either}
-use Rattle.rig.specs.declared.either.Either.the-variants.{Left, Right}
+use Rattle.either.specs.declared.Either.{Either}
+use Rattle.either.specs.declared.Either.the-variants.{Left, Right}
 use Rattle.rig.specs.declared.desk.Rig.{Rig}
-use Rattle.rig.specs.Either.{eitherOf}
+use Rattle.either.specs.Either.{eitherOf}
 use Rattle.rig.specs.Desk.{Setup, setup, Desk, newPart}
 
 abbrev pub AnyPart : Type 0

@@ -8,7 +8,7 @@ use Rattle.std.specs.declared.option.Option.{Option}
 use Rattle.std.specs.declared.option.Option.the-variants.{Some, None}
 use Rattle.script.specs.declared.commands.Command.{Command}
 use Rattle.script.specs.Commands.{commandOf}
-use Rattle.script.specs.Replies.{Said, misuse, lineText}
+use Rattle.reply.specs.Replies.{Said, misuse, lineText}
 use Rattle.script.specs.Text.{linesOf, cleanedText, firstWord}
 use Rattle.rig.specs.Desk.{Desk, performing}
 

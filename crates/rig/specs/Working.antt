@@ -11,8 +11,8 @@ use Rattle.memory.specs.Model.{Held, Mem, Outcome, kindOf, reading, writing, bl
 use Rattle.loader.specs.Image.{loading}
 use Rattle.script.specs.declared.commands.Command.{Command}
 use Rattle.script.specs.declared.commands.Command.the-variants.{Part, Window, Power, Off, Write, Blank, Raise, Read, Count, Rows, Load}
-use Rattle.script.specs.declared.replies.Reply.{Reply}
-use Rattle.script.specs.Replies.{Said, done, refused, misuse, row, count, rows, loaded, said}
+use Rattle.reply.specs.declared.Reply.{Reply}
+use Rattle.reply.specs.Replies.{Said, done, refused, misuse, row, count, rows, loaded, said}
 
 -- How a call that tells nothing but its success is answered.
 abbrev pub toldOf : Result (Unit {0}) Fault → Said

@@ -1,6 +1,5 @@
 // What stands on the bench, and what a script makes of it.
 mod desk;
-mod either;
 mod run;
 mod work;
 

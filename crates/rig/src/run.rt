@@ -9,13 +9,13 @@ ghost use Rattle.rig.specs.Working.{Answered};
 ghost use Rattle.rig.specs.Edges.{Edges};
 ghost use Rattle.rig.specs.Transcript.{obeying, lineDone, linesDone, transcriptOf};
 use super::desk::Rig;
+use reply::Reply;
+use reply::print;
 use script::Command;
-use script::Reply;
 use script::cleaned;
 use script::first_line;
 use script::name;
 use script::parse;
-use script::print;
 use std::alloc::AllocError;
 use std::alloc::Global;
 

@@ -5,7 +5,7 @@ ghost use Rattle.std.specs.Of.Vec.{vec-items};
 ghost use Rattle.std.specs.Vec.{made};
 ghost use Rattle.memory.specs.Model.{kindOf};
 ghost use Rattle.loader.specs.Image.{loading};
-ghost use Rattle.script.specs.Replies.{said};
+ghost use Rattle.reply.specs.Replies.{said};
 ghost use Rattle.rig.specs.Working.{toldOf, readTold, loadTold, working, Answered};
 use base::Fault;
 use base::ROW_BYTES;
@@ -14,8 +14,8 @@ use memory::Memory;
 use memory::Probe;
 use memory::RowKind;
 use memory::Rows;
+use reply::Reply;
 use script::Command;
-use script::Reply;
 use std::alloc::AllocError;
 use std::alloc::Global;
 

@@ -2,5 +2,4 @@ mod Scans
 pub mod Splits
 mod Readings
 mod Arguments
-mod Prints
 mod Trips

@@ -20,9 +20,8 @@ use Rattle.std.proofs.shelf.Lists.{append-assoc}
 use Rattle.std.proofs.shelf.Tests.{ne-eqb, eq-eqb, lt-ltb, and-right, both-ways}
 use Rattle.std.proofs.shelf.Ways.{tells}
 use Rattle.script.specs.Text.{linesOf, wordsOf, cleanedText}
-use Rattle.script.specs.Words.{digitOf, numberFrom, inBase, isHex, numberOf, numberTo, bytesOf, bytesIn}
+use Rattle.script.specs.Words.{digitOf, numberFrom, inBase, isHex, numberOf, numberTo, bytesOf, bytesIn, hexDigit, hexText}
 use Rattle.script.specs.Commands.{isText, commandOf}
-use Rattle.script.specs.Replies.{hexDigit, hexText, numbered, lineText}
 use Rattle.script.proofs.Readings.{some-digits, bytes-at}
 use Rattle.script.specs.Laws.{Lacks, ScriptLaws, Examples}
 
@@ -103,7 +102,7 @@ pub laws : ScriptLaws
 laws = record { lines = lines-are; words = words-are; bytes = row-back; numbers = number-back }
 
 pub examples : Examples
-unfolding linesOf wordsOf numberFrom numberTo bytesOf bytesIn isText commandOf hexText numbered lineText digits
+unfolding wordsOf numberFrom numberTo bytesOf bytesIn isText commandOf
 examples = record {
   cleaned = refl;
   part = refl;
@@ -115,8 +114,4 @@ examples = record {
   empty-word = refl;
   surplus = refl;
   unknown = refl;
-  fault = refl;
-  count = refl;
-  rows = refl;
-  load = refl;
 }

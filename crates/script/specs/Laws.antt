@@ -8,16 +8,11 @@ use lib.ListN.{length}
 use Rattle.std.specs.Written.{decimal}
 use Rattle.std.specs.declared.option.Option.the-variants.{Some, None}
 use Rattle.std.specs.shelf.Lists.{All, joined}
-use Rattle.base.specs.declared.Case.the-variants.{NoRow}
-use Rattle.base.specs.declared.Layer.the-variants.{Memory}
-use Rattle.base.specs.Faults.{faultAt}
-use Rattle.memory.specs.declared.RowKind.the-variants.{Written, Blank, Spoilt}
 use Rattle.script.specs.declared.commands.Style.the-variants.{Flash}
 use Rattle.script.specs.declared.commands.Command.the-variants.{Part, Power, Off}
 use Rattle.script.specs.Text.{linesOf, wordsOf, cleanedText}
-use Rattle.script.specs.Words.{numberOf, bytesIn}
+use Rattle.script.specs.Words.{numberOf, bytesIn, hexText}
 use Rattle.script.specs.Commands.{commandOf}
-use Rattle.script.specs.Replies.{hexText, lineText, refused, count, rows, loaded}
 
 -- A text without a byte.
 abbrev pub Lacks : ℕ → List ℕ → Type 0
@@ -32,7 +27,7 @@ pub record ScriptLaws : Type 0 where
   pub bytes : (bs : List ℕ) → All (λ b. b < 256) bs → bytesIn (length bs) (hexText bs) ≡ Some bs
   pub numbers : (n : ℕ) → n < 2 ^ 64 → numberOf (decimal n) ≡ Some n
 
--- Some lines, as they are read and printed.
+-- Some lines, as they are read.
 pub record Examples : Type 0 where
   pub cleaned : cleanedText (codes "  off\t# for the night") ≡ codes "off"
   pub part : commandOf (codes "part flash 0012") ≡ Some (Part Flash 12)
@@ -44,7 +39,3 @@ pub record Examples : Type 0 where
   pub empty-word : commandOf (codes "read  1") ≡ None
   pub surplus : commandOf (codes "off now") ≡ None
   pub unknown : commandOf (codes "offs") ≡ None
-  pub fault : lineText (codes "blank") (refused (faultAt NoRow Memory 9)) ≡ codes "blank: fault 7 layer 1 row 9\n"
-  pub count : lineText (codes "count") (count 3 4096) ≡ codes "count: 3 of 4096\n"
-  pub rows : lineText (codes "rows") (rows (Written ∷ (Blank ∷ (Spoilt ∷ [])))) ≡ codes "rows: wbs\n"
-  pub load : lineText (codes "load") (loaded 1 20) ≡ codes "load: slot 1 version 20\n"

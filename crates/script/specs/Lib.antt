@@ -1,5 +1,4 @@
 pub mod Text
 pub mod Words
 pub mod Commands
-pub mod Replies
 pub mod Laws

@@ -1,7 +1,7 @@
 -- Numbers and bytes as a word writes them. Assumes nothing.
 use mathlib.Core.Bool.{Bool, cond, _&&_}
 use mathlib.Core.List.{List, [], _∷_}
-use Prim.Native.Nat.{ℕ, _+_, _-_, _*_}
+use Prim.Native.Nat.{ℕ, _+_, _-_, _*_, _/_, _%_}
 use lib.Dec.{eqb, leb, ltb}
 use lib.ListN.{length, drop, getD}
 use Rattle.std.specs.Options.{mapped}
@@ -61,3 +61,11 @@ bits32 word = numberTo 4294967295 word
 
 abbrev pub rowBytes : List ℕ → Option (List ℕ)
 rowBytes word = bytesIn 64 word
+
+-- How bytes are written: a digit in lower case, two for each byte.
+abbrev pub hexDigit : ℕ → ℕ
+hexDigit d = cond (ltb d 10) (48 + d) (87 + d)
+
+unfoldable pub hexText : List ℕ → List ℕ
+hexText [] = []
+hexText (b ∷ bs) = hexDigit (b / 16) ∷ (hexDigit (b % 16) ∷ hexText bs)

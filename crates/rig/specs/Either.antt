@@ -1,8 +1,0 @@
--- One of two memories. Assumes nothing.
-use Rattle.rig.specs.declared.either.Either.{Either}
-use Rattle.rig.specs.declared.either.Either.the-variants.{Left, Right}
-
--- It means what the one that it is means.
-abbrev pub eitherOf : {A B X : Type 0} → (A → X) → (B → X) → Either A B → X
-eitherOf f g (Left a) = f a
-eitherOf f g (Right b) = g b

@@ -1,6 +1,0 @@
-use Rattle.std.specs.Of.Vec.{vec-items}
-use Rattle.script.proofs.Prints.{puts-extended}
-use Rattle.script.proofs.replies.put.Needs as need
-
-pub returns : need.returns
-returns c = puts-extended (c .extend-from-slice .result) (vec-items (c .args .out .now)) (c .args .bytes .now) (vec-items (c .extend-from-slice .last .self)) (c .extend-from-slice .ensures .items)

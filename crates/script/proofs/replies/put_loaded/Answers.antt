@@ -1,9 +1,0 @@
-use lib.Chars.{codes}
-use Rattle.std.specs.Of.Vec.{vec-items}
-use Rattle.script.specs.Replies.{numbered}
-use Rattle.script.proofs.Prints.{puts-then}
-use Rattle.script.proofs.replies.put_loaded.Needs as need
-
-pub returns : need.returns
-returns c =
-    puts-then (c .put-numbered-2 .result) (vec-items (c .args .out .now)) (numbered (codes "slot ") (c .args .slot)) (vec-items (c .put-numbered .last .out)) (numbered (codes " version ") (c .args .version)) (vec-items (c .put-numbered-2 .last .out)) (c .in-Continue-put-numbered .ensures tt) (c .put-numbered-2 .ensures)

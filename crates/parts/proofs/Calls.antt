@@ -11,7 +11,7 @@ use Rattle.std.proofs.shelf.Tests.{both-ways, ltb-true, lt-ltb, eqb-true, ne-eq
 use Rattle.std.specs.declared.result.Result.{Result}
 use Rattle.std.specs.declared.result.Result.the-variants.{Ok, Err}
 use Rattle.std.specs.Of.Vec.{vec-items}
-use Rattle.base.specs.declared.Case.the-variants.{NoRow, PowerOff, PowerCut}
+use Rattle.base.specs.declared.Case.the-variants.{NoRow, PowerOff, PowerCut, CountFull}
 use Rattle.base.specs.declared.Layer.the-variants.{Memory}
 use Rattle.base.specs.declared.Fault.{Fault}
 use Rattle.base.specs.Faults.{faultAt, fault, nowhere}
@@ -22,7 +22,7 @@ use Rattle.parts.specs.declared.supply.Supply.{Supply}
 use Rattle.parts.specs.declared.supply.Fate.{Fate}
 use Rattle.parts.specs.declared.supply.Fate.the-variants.{Done, CutOld, CutNew, CutSpoilt}
 use Rattle.parts.specs.Strip.{stepped}
-use Rattle.parts.specs.Supply.{supply, fateOf, drawn, fated, fatedRow, fatedCount}
+use Rattle.parts.specs.Supply.{supply, fateOf, drawn, admittingRaise, fated, fatedRow, fatedCount}
 use Rattle.parts.specs.Part.{heldOf, meaningOf, admitting}
 
 -- The supply of a memory.
@@ -34,12 +34,12 @@ abbrev putMem : Mem → ℕ → Row → Supply → Mem
 putMem m i y s =
     record { held = record { rows = set (m .held .rows) i y; power = s .power }; count = m .count; ceiling = m .ceiling; charge = s .charge; tear = s .tear }
 
--- Whether a row is admitted, by the two tests, and what is done then or else.
-abbrev gate : Bool → Bool → ℕ → Result (Unit {0}) Fault
-gate there on i = cond there (cond on (Ok tt) (Err (faultAt PowerOff Memory i))) (Err (faultAt NoRow Memory i))
+-- Whether a change is admitted, by two tests, and what is done then or else.
+abbrev gate : Bool → Bool → Fault → Fault → Result (Unit {0}) Fault
+gate a b f g = cond a (cond b (Ok tt) (Err g)) (Err f)
 
-abbrev gated : {T X : Type 0} → Bool → Bool → ℕ → X → Result T Fault × X → Result T Fault × X
-gated there on i x o = cond there (cond on o (Err (faultAt PowerOff Memory i), x)) (Err (faultAt NoRow Memory i), x)
+abbrev gated : {T X : Type 0} → Bool → Bool → Fault → Fault → X → Result T Fault × X → Result T Fault × X
+gated a b f g x o = cond a (cond b o (Err g, x)) (Err f, x)
 
 -- Ok is no Err.
 no-fault : (f : Fault) (u : Unit {0}) → _≡_ {A = Result (Unit {0}) Fault} (Ok u) (Err f) → ⊥
@@ -49,31 +49,36 @@ no-fault f u e = let z : _≡_ {A = ℕ} 0 1 = cc in omega arith
 same-fault : (f g : Fault) → _≡_ {A = Result (Unit {0}) Fault} (Err f) (Err g) → g ≡ f
 same-fault f g e = cc
 
+-- The halves of an outcome.
+halves : {X Y : Type 0} (o : X × Y) (r a : X) (b : Y) → o ≡ (a, b) → r ≡ a → (r ≡ o .0) × (b ≡ o .1)
+halves {X} {Y} o r a b e is = (is ∙ ap (λ (q : X × Y). q .0) (sym e), ap (λ (q : X × Y). q .1) (sym e))
+
 -- A shut gate hands on its fault and changes nothing.
-gate-shut : {T X : Type 0} (there on : Bool) (i : ℕ) (x : X) (o : Result T Fault × X) (f : Fault) → Err f ≡ gate there on i → gated there on i x o ≡ (Err f, x)
-gate-shut true true i x o f e = absurd (no-fault f tt (sym e))
-gate-shut {T} {X} true false i x o f e = ap (λ (g : Fault). let r : Result T Fault × X = (Err g, x) in r) (same-fault f (faultAt PowerOff Memory i) e)
-gate-shut {T} {X} false on i x o f e = ap (λ (g : Fault). let r : Result T Fault × X = (Err g, x) in r) (same-fault f (faultAt NoRow Memory i) e)
+gate-shut : {T X : Type 0} (a b : Bool) (f g : Fault) (x : X) (o : Result T Fault × X) (h : Fault) → Err h ≡ gate a b f g → gated a b f g x o ≡ (Err h, x)
+gate-shut true true f g x o h e = absurd (no-fault h tt (sym e))
+gate-shut {T} {X} true false f g x o h e = ap (λ (k : Fault). let r : Result T Fault × X = (Err k, x) in r) (same-fault h g e)
+gate-shut {T} {X} false b f g x o h e = ap (λ (k : Fault). let r : Result T Fault × X = (Err k, x) in r) (same-fault h f e)
 
 -- An open gate: both tests came out true.
-gate-open : (there on : Bool) (i : ℕ) (u : Unit {0}) → Ok u ≡ gate there on i → (there ≡ true) × (on ≡ true)
-gate-open true true i u e = (refl, refl)
-gate-open true false i u e = absurd (no-fault (faultAt PowerOff Memory i) u e)
-gate-open false on i u e = absurd (no-fault (faultAt NoRow Memory i) u e)
+gate-open : (a b : Bool) (f g : Fault) (u : Unit {0}) → Ok u ≡ gate a b f g → (a ≡ true) × (b ≡ true)
+gate-open true true f g u e = (refl, refl)
+gate-open true false f g u e = absurd (no-fault g u e)
+gate-open false b f g u e = absurd (no-fault f u e)
 
-gate-through : {T X : Type 0} (there on : Bool) (i : ℕ) (x : X) (o : Result T Fault × X) → there ≡ true → on ≡ true → gated there on i x o ≡ o
-gate-through true true i x o p q = refl
-gate-through true false i x o p q = absurd (both-ways false refl q)
-gate-through false on i x o p q = absurd (both-ways false refl p)
+gate-through : {T X : Type 0} (a b : Bool) (f g : Fault) (x : X) (o : Result T Fault × X) → a ≡ true → b ≡ true → gated a b f g x o ≡ o
+gate-through true true f g x o p q = refl
+gate-through true false f g x o p q = absurd (both-ways false refl q)
+gate-through false b f g x o p q = absurd (both-ways false refl p)
 
 -- A row that is not admitted stays, and all else.
-pub put-refused : (m : Mem) (i : ℕ) (x : Row) (f : Fault) → Err f ≡ admitting (m .held) i → putting m i x ≡ (Err f, m)
+pub put-refused : (m : Mem) (i : ℕ) (x : Row) (f : Fault) → Err f ≡ admitting (m .held) i → (Err f ≡ putting m i x .0) × (m ≡ putting m i x .1)
 unfolding putting
-put-refused m i x f e = gate-shut (ltb i (length (m .held .rows))) (m .held .power) i m _ f e
+put-refused m i x f e =
+    halves (putting m i x) (Err f) (Err f) m (gate-shut (ltb i (length (m .held .rows))) (m .held .power) (faultAt NoRow Memory i) (faultAt PowerOff Memory i) m _ f e) refl
 
 -- A row that is admitted is one of the rows, and power is on.
 pub admitted : (h : Held) (i : ℕ) (u : Unit {0}) → Ok u ≡ admitting h i → (ltb i (length (h .rows)) ≡ true) × (h .power ≡ true)
-admitted h i u e = gate-open (ltb i (length (h .rows))) (h .power) i u e
+admitted h i u e = gate-open (ltb i (length (h .rows))) (h .power) (faultAt NoRow Memory i) (faultAt PowerOff Memory i) u e
 
 -- So the row stands in the table.
 pub inside : {R C : Type 0} (means : R → Row) (p : Part R C) (i : ℕ) (u : Unit {0}) → Ok u ≡ admitting (heldOf means p) i → i < length (vec-items (p .table .cells))
@@ -99,7 +104,7 @@ pub put-admitted : (m : Mem) (i : ℕ) (x : Row) (u : Unit {0}) → Ok u ≡ adm
 unfolding putting
 put-admitted m i x u e =
     let both = admitted (m .held) i u e in
-    gate-through (ltb i (length (m .held .rows))) (m .held .power) i m _ (both .0) (both .1)
+    gate-through (ltb i (length (m .held .rows))) (m .held .power) (faultAt NoRow Memory i) (faultAt PowerOff Memory i) m _ (both .0) (both .1)
     ∙ by-charge m i x (eqb (m .charge) 0) (eqb (m .tear) 0) (eqb (m .tear) 1)
 
 -- The row that was lent, in the list of what the rows mean.
@@ -113,25 +118,27 @@ row-changed means xs i old w fate x lt is e =
     map-set means xs i w ∙ ap (λ (y : Row). set (map means xs) i y) (e ∙ ap (λ (o : Row). fatedRow fate o x) (sym was))
 
 -- What a part answers to a change, and what it means then.
-pub put-part : {R C : Type 0} (means : R → Row) (counted : C → ℕ) (limit : ℕ) (p : Part R C) (i : ℕ) (x : Row) (u : Unit {0}) (old w : R) (fate : Fate) (s : Supply) → Ok u ≡ admitting (heldOf means p) i → old ≡ getD (vec-items (p .table .cells)) i old → means w ≡ fatedRow fate (means old) x → fate ≡ fateOf (p .supply) → s ≡ drawn (p .supply) → putting (meaningOf means counted limit p) i x ≡ (fated fate i, record { held = record { rows = map means (set (vec-items (p .table .cells)) i w); power = s .power }; count = counted (p .counter); ceiling = limit; charge = s .charge; tear = s .tear })
-put-part means counted limit p i x u old w fate s admits is e fate-is s-is =
+pub put-part : {R C : Type 0} (means : R → Row) (counted : C → ℕ) (limit : ℕ) (p : Part R C) (i : ℕ) (x : Row) (u : Unit {0}) (old w : R) (fate : Fate) (s : Supply) (r : Result (Unit {0}) Fault) → Ok u ≡ admitting (heldOf means p) i → old ≡ getD (vec-items (p .table .cells)) i old → means w ≡ fatedRow fate (means old) x → fate ≡ fateOf (p .supply) → s ≡ drawn (p .supply) → r ≡ fated fate i → (r ≡ putting (meaningOf means counted limit p) i x .0) × (_≡_ {A = Mem} (record { held = record { rows = map means (set (vec-items (p .table .cells)) i w); power = s .power }; count = counted (p .counter); ceiling = limit; charge = s .charge; tear = s .tear }) (putting (meaningOf means counted limit p) i x .1))
+put-part means counted limit p i x u old w fate s r admits is e fate-is s-is told =
     let put = put-admitted (meaningOf means counted limit p) i x u admits in
     let rows = row-changed means (vec-items (p .table .cells)) i old w fate x (inside means p i u admits) is e in
-    cc
+    halves (putting (meaningOf means counted limit p) i x) r (fated fate i) _ (cc) told
 
 -- A row that is not admitted is not read.
-pub read-refused : (h : Held) (i : ℕ) (area : List ℕ) (f : Fault) → Err f ≡ admitting h i → reading h i area ≡ (Err f, area)
+pub read-refused : (h : Held) (i : ℕ) (area : List ℕ) (f : Fault) → Err f ≡ admitting h i → (Err f ≡ reading h i area .0) × (area ≡ reading h i area .1)
 unfolding reading
-read-refused h i area f e = gate-shut (ltb i (length (h .rows))) (h .power) i area _ f e
+read-refused h i area f e =
+    halves (reading h i area) (Err f) (Err f) area (gate-shut (ltb i (length (h .rows))) (h .power) (faultAt NoRow Memory i) (faultAt PowerOff Memory i) area _ f e) refl
 
 -- What a part answers to a reading, and what the area holds then.
-pub read-part : {R C : Type 0} (means : R → Row) (p : Part R C) (i : ℕ) (area : List ℕ) (u : Unit {0}) (old : R) → Ok u ≡ admitting (heldOf means p) i → old ≡ getD (vec-items (p .table .cells)) i old → reading (heldOf means p) i area ≡ (Ok (kindOf (means old)), shownOf (means old))
+pub read-part : {R C : Type 0} (means : R → Row) (p : Part R C) (i : ℕ) (area : List ℕ) (u : Unit {0}) (old : R) (k : RowKind) (shown : List ℕ) → Ok u ≡ admitting (heldOf means p) i → old ≡ getD (vec-items (p .table .cells)) i old → k ≡ kindOf (means old) → shown ≡ shownOf (means old) → (_≡_ {A = Result RowKind Fault} (Ok k) (reading (heldOf means p) i area .0)) × (shown ≡ reading (heldOf means p) i area .1)
 unfolding reading
-read-part means p i area u old admits is =
+read-part means p i area u old k shown admits is kind-is shown-is =
     let both = admitted (heldOf means p) i u admits in
     let was = row-means means (vec-items (p .table .cells)) i old (inside means p i u admits) is in
-    gate-through (ltb i (length (heldOf means p .rows))) (p .supply .power) i area _ (both .0) (both .1)
-    ∙ ap (λ (y : Row). let r : Result RowKind Fault × List ℕ = (Ok (kindOf y), shownOf y) in r) was
+    let through : reading (heldOf means p) i area ≡ (Ok (kindOf (at (heldOf means p) i)), shownOf (at (heldOf means p) i)) =
+    gate-through (ltb i (length (heldOf means p .rows))) (p .supply .power) (faultAt NoRow Memory i) (faultAt PowerOff Memory i) area _ (both .0) (both .1) in
+    halves (reading (heldOf means p) i area) (Ok k) (Ok k) shown (cc) refl
 
 -- A memory with the count and the supply changed.
 abbrev countMem : Mem → ℕ → Supply → Mem
@@ -150,17 +157,24 @@ raise-by m false tear0 tear1 h = refl
 one-tear : (t : ℕ) → eqb t 0 ≡ true → eqb t 1 ≡ false
 one-tear t e = let z : t ≡ 0 = eqb-true t 0 e in ne-eqb t 1 (λ o. omega arith)
 
--- With power and room the count becomes what the supply makes of it.
-raise-through : (m : Mem) → m .held .power ≡ true → m .count < m .ceiling → raising m ≡ (fated (fateOf (supplyOf m)) nowhere, countMem m (fatedCount (fateOf (supplyOf m)) (m .count) (m .count + 1)) (drawn (supplyOf m)))
+-- A count that may not rise stays, and all else.
+pub raise-refused : (m : Mem) (n top : ℕ) (f : Fault) → n ≡ m .count → top ≡ m .ceiling → Err f ≡ admittingRaise (m .held .power) n top → (Err f ≡ raising m .0) × (m ≡ raising m .1)
 unfolding raising
-raise-through m on room =
-    cond-true (m .held .power) _ _ on
-    ∙ cond-true (ltb (m .count) (m .ceiling)) _ _ (lt-ltb (m .count) (m .ceiling) room)
+raise-refused m n top f n-is top-is e =
+    halves (raising m) (Err f) (Err f) m (gate-shut (m .held .power) (ltb (m .count) (m .ceiling)) (fault PowerOff Memory) (fault CountFull Memory) m _ f (rw (n-is, top-is) at e)) refl
+
+-- A count that may rise becomes what the supply makes of it.
+raise-through : (m : Mem) (u : Unit {0}) → Ok u ≡ admittingRaise (m .held .power) (m .count) (m .ceiling) → raising m ≡ (fated (fateOf (supplyOf m)) nowhere, countMem m (fatedCount (fateOf (supplyOf m)) (m .count) (m .count + 1)) (drawn (supplyOf m)))
+unfolding raising
+raise-through m u e =
+    let both = gate-open (m .held .power) (ltb (m .count) (m .ceiling)) (fault PowerOff Memory) (fault CountFull Memory) u e in
+    gate-through (m .held .power) (ltb (m .count) (m .ceiling)) (fault PowerOff Memory) (fault CountFull Memory) m _ (both .0) (both .1)
     ∙ raise-by m (eqb (m .charge) 0) (eqb (m .tear) 0) (eqb (m .tear) 1) (one-tear (m .tear))
 
 -- What a part answers to a raising, and what it means then.
-pub raise-part : {R C : Type 0} (means : R → Row) (counted : C → ℕ) (limit : ℕ) (p : Part R C) (w : C) (fate : Fate) (s : Supply) → p .supply .power ≡ true → counted (p .counter) < limit → counted w ≡ fatedCount fate (counted (p .counter)) (stepped limit (counted (p .counter))) → fate ≡ fateOf (p .supply) → s ≡ drawn (p .supply) → raising (meaningOf means counted limit p) ≡ (fated fate nowhere, record { held = record { rows = map means (vec-items (p .table .cells)); power = s .power }; count = counted w; ceiling = limit; charge = s .charge; tear = s .tear })
-raise-part means counted limit p w fate s on room e fate-is s-is =
-    let up = raise-through (meaningOf means counted limit p) on room in
-    let next = cond-true (ltb (counted (p .counter)) limit) (counted (p .counter) + 1) (counted (p .counter)) (lt-ltb (counted (p .counter)) limit room) in
-    cc
+pub raise-part : {R C : Type 0} (means : R → Row) (counted : C → ℕ) (limit : ℕ) (p : Part R C) (n top : ℕ) (u : Unit {0}) (w : C) (fate : Fate) (s : Supply) (r : Result (Unit {0}) Fault) → n ≡ counted (p .counter) → top ≡ limit → Ok u ≡ admittingRaise (p .supply .power) n top → counted w ≡ fatedCount fate (counted (p .counter)) (stepped limit (counted (p .counter))) → fate ≡ fateOf (p .supply) → s ≡ drawn (p .supply) → r ≡ fated fate nowhere → (r ≡ raising (meaningOf means counted limit p) .0) × (_≡_ {A = Mem} (record { held = record { rows = map means (vec-items (p .table .cells)); power = s .power }; count = counted w; ceiling = limit; charge = s .charge; tear = s .tear }) (raising (meaningOf means counted limit p) .1))
+raise-part means counted limit p n top u w fate s r n-is top-is admits e fate-is s-is told =
+    let may : Ok u ≡ admittingRaise (p .supply .power) (counted (p .counter)) limit = rw (n-is, top-is) at admits in
+    let up = raise-through (meaningOf means counted limit p) u may in
+    let next = cond-true (ltb (counted (p .counter)) limit) (counted (p .counter) + 1) (counted (p .counter)) (gate-open (p .supply .power) (ltb (counted (p .counter)) limit) (fault PowerOff Memory) (fault CountFull Memory) u may .1) in
+    halves (raising (meaningOf means counted limit p)) r (fated fate nowhere) _ (cc) told

@@ -130,8 +130,8 @@ pub stepped-full : (n : ℕ) → stripBits ≤ n → stepped stripBits n ≡ n
 stepped-full n h = cond-false (ltb n stripBits) (n + 1) n (le-ltb n stripBits h)
 
 -- Clearing the next bit of a byte is the step.
-pub masked : (s : List ℕ) (n : ℕ) → Legal s → n ≡ zeros s → n < stripBits → set s (n / 8) (bitAnd (getD s (n / 8) 0) (127 / 2 ^ (n % 8))) ≡ steppedStrip s
-masked s n e is h =
+pub masked : (s : List ℕ) (n byte : ℕ) → Legal s → n ≡ zeros s → n < stripBits → byte ≡ bitAnd (getD s (n / 8) 0) (127 / 2 ^ (n % 8)) → set s (n / 8) byte ≡ steppedStrip s
+masked s n byte e is h made =
     let room : n < 8 * stripBytes = omega arith in
     let here = cleared-at stripBytes n room in
     let mask = mask-byte (n % 8) (omega arith) in

@@ -1,10 +1,10 @@
 -- A part's supply: what it lets a change do, and what a change becomes by it. Assumes nothing.
-use mathlib.Core.Bool.{Bool, true, false, cond}
+use mathlib.Core.Bool.{Bool, false, cond}
 use Prim.Native.Nat.{ℕ, _-_}
 use lib.Dec.{eqb, ltb}
 use Rattle.std.specs.declared.result.Result.{Result}
 use Rattle.std.specs.declared.result.Result.the-variants.{Ok, Err}
-use Rattle.base.specs.declared.Case.the-variants.{BadShape, PowerCut}
+use Rattle.base.specs.declared.Case.the-variants.{PowerOff, PowerCut, CountFull}
 use Rattle.base.specs.declared.Layer.the-variants.{Memory}
 use Rattle.base.specs.declared.Fault.{Fault}
 use Rattle.base.specs.Faults.{faultAt, fault}
@@ -26,9 +26,9 @@ fateOf s = cond (eqb (s .charge) 0) (cond (eqb (s .tear) 0) CutOld (cond (eqb (s
 abbrev pub drawn : Supply → Supply
 drawn s = cond (eqb (s .charge) 0) (supply false (s .charge) (s .tear)) (supply (s .power) (s .charge - 1) (s .tear))
 
--- Power comes on with a tear of 0 to 2.
-abbrev pub turnedOn : Supply → ℕ → ℕ → Result (Unit {0}) Fault × Supply
-turnedOn s charge tear = cond (ltb tear 3) (Ok tt, supply true charge tear) (Err (fault BadShape Memory), s)
+-- Whether a count can rise: there has to be power, and room below the ceiling.
+abbrev pub admittingRaise : Bool → ℕ → ℕ → Result (Unit {0}) Fault
+admittingRaise power count ceiling = cond power (cond (ltb count ceiling) (Ok tt) (Err (fault CountFull Memory))) (Err (fault PowerOff Memory))
 
 -- What the caller is told of a change at row i.
 abbrev pub fated : Fate → ℕ → Result (Unit {0}) Fault

@@ -1,6 +1,7 @@
 // The counters of the parts: a register of 32 bits, and a strip of bits that are only cleared.
 ghost use mathlib.Core.Path.{_≡_};
-ghost use Prim.Native.Nat.{ℕ};
+ghost use Prim.Native.Nat.{ℕ, _/_, _^_, _<_};
+ghost use lib.Bits.{bitAnd};
 ghost use Rattle.parts.specs.Bounds.{registerLimit, stripBits};
 ghost use Rattle.parts.specs.Counters.{registerCount, stripCount};
 ghost use Rattle.parts.specs.Strip.{zeros, Legal, stepped, steppedStrip, newStrip, StripLaws};
@@ -95,18 +96,27 @@ fn fresh_strip() -> [u8; STRIP_BYTES]
     [UNCLEARED; STRIP_BYTES]
 }
 
+// A byte with one more bit cleared: bit 0 is the highest.
+fn clear_bit(byte: u8, bit: u32) -> u8
+    requires { ⌜ bit < 8 ⌝ }
+    ensures { λ r. ⌜ r ≡ bitAnd byte (127 / 2 ^ bit) ⌝ }
+{
+    byte & (WITHOUT_HIGHEST >> bit)
+}
+
 // A copy of the strip with one more bit cleared, the highest of byte 0 first. A full strip stays.
 fn stepped_copy(strip: &[u8; STRIP_BYTES]) -> [u8; STRIP_BYTES]
     requires { ⌜ Legal (now strip) ⌝ }
     ensures strip { λ r. ⌜ r ≡ steppedStrip (now (strip .entry)) ⌝ }
     ensures legal { λ r. ⌜ Legal r ⌝ }
     ensures count { λ r. ⌜ zeros r ≡ stepped stripBits (zeros (now (strip .entry))) ⌝ }
+    ensures laws { λ _. ⌜ StripLaws ⌝ }
 {
     let mut copy = *strip;
     let count = zero_bits(strip);
     let place = (count / BYTE_BITS) as usize;
     if place < STRIP_BYTES {
-        copy[place] &= WITHOUT_HIGHEST >> (count % BYTE_BITS);
+        copy[place] = clear_bit(copy[place], count % BYTE_BITS);
     }
     copy
 }
@@ -133,20 +143,13 @@ pub impl Counter for Strip as StripCounter {
         STRIP_BITS
     }
 
+    // The laws say what a step does to the bits: it clears the next one and no other.
     fn step(&mut self)
         ensures count { λ _. ⌜ stripCount (now (self .exit)) ≡ stepped stripBits (stripCount (now (self .entry))) ⌝ }
         ensures strip { λ _. ⌜ now (self .exit) .bytes ≡ steppedStrip (now (self .entry) .bytes) ⌝ }
+        ensures laws { λ _. ⌜ StripLaws ⌝ }
     {
         let copy = stepped_copy(&self.bytes);
         self.bytes = copy;
     }
-}
-
-/// How many steps a new strip takes. The contract says what holds of strips: the count is that of
-/// the cleared bits, those are a prefix, and a step clears the next bit and nothing else.
-pub fn strip_laws() -> u32
-    ensures laws { λ _. ⌜ StripLaws ⌝ }
-    ensures steps { λ r. ⌜ r ≡ stripBits ⌝ }
-{
-    STRIP_BYTES as u32 * BYTE_BITS
 }

@@ -1,9 +1,8 @@
 // Two memory parts: one that can be rewritten, and a flash part whose bits are only cleared.
 ghost use mathlib.Core.Path.{_≡_};
-ghost use lib.Dec.{ltb};
 ghost use lib.ListN.{length};
 ghost use Rattle.std.specs.Of.Vec.{vec-len};
-ghost use Rattle.memory.specs.Model.{putting};
+ghost use Rattle.memory.specs.Model.{reading, putting, raising, poweringUp};
 ghost use Rattle.parts.specs.Part.{heldOf, meaningOf, admitting, Made};
 ghost use Rattle.parts.specs.Supply.{becoming};
 
@@ -28,7 +27,6 @@ pub use counter::Counter;
 pub use counter::Register;
 pub use counter::RegisterCounter;
 pub use counter::StripCounter;
-pub use counter::strip_laws;
 use memory::Memory;
 use memory::Probe;
 use memory::RowKind;
@@ -44,6 +42,9 @@ use table::Table;
 
 /// The most rows that a part can have.
 pub const MAX_ROWS: u16 = 192;
+
+// The highest tear that there is.
+const MAX_TEAR: u8 = 2;
 
 /// Why no part was made: a size out of range, or want of memory of the host.
 #[derive(Clone, Copy)]
@@ -66,14 +67,11 @@ impl<R: Cell + Drop, C: Counter> Part<R, C> {
         if size == 0 || size > MAX_ROWS {
             return Err(NotMade::Shape(Fault::new(Case::BadShape, Layer::Memory)));
         }
-        let mut cells = Vec::new(heap);
-        for _ in 0..size {
-            if cells.push(R::new()).is_err() {
-                return Err(NotMade::NoMemory);
-            }
-        }
+        let Some(table) = Table::blank(heap, size) else {
+            return Err(NotMade::NoMemory);
+        };
         Ok(Part {
-            table: Table { cells },
+            table,
             counter: C::new(),
             supply: Supply::new(),
         })
@@ -81,19 +79,19 @@ impl<R: Cell + Drop, C: Counter> Part<R, C> {
 }
 
 impl<R: Cell, C: Counter> Part<R, C> {
-    // Whether there is such a row.
-    fn has(&self, row: u16) -> bool
-        ensures rows { λ r. ⌜ r ≡ ltb row (length (heldOf (R·Cell .means) (now (self .entry)) .rows)) ⌝ }
-        ensures cells { λ r. ⌜ r ≡ ltb row (vec-len (now (self .entry) .table .cells)) ⌝ }
+    // How many rows there are.
+    fn extent(&self) -> u16
+        ensures rows { λ r. ⌜ r ≡ length (heldOf (R·Cell .means) (now (self .entry)) .rows) ⌝ }
+        ensures cells { λ r. ⌜ r ≡ vec-len (now (self .entry) .table .cells) ⌝ }
     {
-        (row as usize) < self.table.len()
+        self.table.len() as u16
     }
 
     // Refuses a row that there is not, and any row while power is off.
     fn admit(&self, row: u16) -> Result<(), Fault>
         ensures { λ r. ⌜ r ≡ admitting (heldOf (R·Cell .means) (now (self .entry))) row ⌝ }
     {
-        if !self.has(row) {
+        if row >= self.extent() {
             return Err(Fault::at(Case::NoRow, Layer::Memory, row));
         }
         if !self.supply.power {
@@ -112,24 +110,60 @@ impl<R: Cell, C: Counter> Part<R, C> {
         change_row(self.table.row_mut(row), fate, &change);
         fate.answer(row)
     }
+
+    // Shows a row that is admitted.
+    fn look(&self, row: u16, area: &mut [u8; ROW_BYTES]) -> Result<RowKind, Fault>
+        ensures answer { λ r. ⌜ r ≡ reading (heldOf (R·Cell .means) (now (self .entry))) row (now (area .entry)) .0 ⌝ }
+        ensures area { λ _. ⌜ now (area .exit) ≡ reading (heldOf (R·Cell .means) (now (self .entry))) row (now (area .entry)) .1 ⌝ }
+    {
+        self.admit(row)?;
+        Ok(self.table.row(row).show(area))
+    }
+
+    // Counts one more, or makes of the count what the cut leaves.
+    fn count_up(&mut self) -> Result<(), Fault>
+        ensures answer { λ r. ⌜ r ≡ raising (meaningOf (R·Cell .means) (C·Counter .counted) (C·Counter .limit) (now (self .entry))) .0 ⌝ }
+        ensures after { λ _. ⌜ meaningOf (R·Cell .means) (C·Counter .counted) (C·Counter .limit) (now (self .exit)) ≡ raising (meaningOf (R·Cell .means) (C·Counter .counted) (C·Counter .limit) (now (self .entry))) .1 ⌝ }
+    {
+        self.supply
+            .admit_raise(self.counter.count(), self.counter.ceiling())?;
+        let fate = self.supply.draw();
+        step_counter(&mut self.counter, fate);
+        fate.answer(NOWHERE)
+    }
+
+    // Power on, with a charge and a tear of 0 to 2.
+    fn turn_on(&mut self, charge: u32, tear: u8) -> Result<(), Fault>
+        ensures answer { λ r. ⌜ r ≡ poweringUp (meaningOf (R·Cell .means) (C·Counter .counted) (C·Counter .limit) (now (self .entry))) charge tear .0 ⌝ }
+        ensures after { λ _. ⌜ meaningOf (R·Cell .means) (C·Counter .counted) (C·Counter .limit) (now (self .exit)) ≡ poweringUp (meaningOf (R·Cell .means) (C·Counter .counted) (C·Counter .limit) (now (self .entry))) charge tear .1 ⌝ }
+    {
+        if tear > MAX_TEAR {
+            return Err(Fault::new(Case::BadShape, Layer::Memory));
+        }
+        self.supply = Supply {
+            power: true,
+            charge,
+            tear,
+        };
+        Ok(())
+    }
 }
 
 pub impl<R: Cell, C: Counter> Rows for Part<R, C> as PartRows {
     ghost held = { heldOf (R·Cell .means) };
 
     fn read(&self, row: u16, area: &mut [u8; ROW_BYTES]) -> Result<RowKind, Fault> {
-        self.admit(row)?;
-        Ok(self.table.row(row).show(area))
+        self.look(row, area)
     }
 
     fn size(&self) -> u16 {
-        self.table.len() as u16
+        self.extent()
     }
 }
 
 pub impl<R: Cell, C: Counter> Probe for Part<R, C> as PartProbe {
     fn probe(&self, row: u16) -> Option<RowKind> {
-        let found = self.has(row);
+        let found = row < self.extent();
         if found {
             Some(self.table.row(row).kind())
         } else {
@@ -150,19 +184,11 @@ pub impl<R: Cell, C: Counter> Memory for Part<R, C> as PartMemory {
     }
 
     fn raise(&mut self) -> Result<(), Fault> {
-        if !self.supply.power {
-            return Err(Fault::new(Case::PowerOff, Layer::Memory));
-        }
-        if self.count() >= self.ceiling() {
-            return Err(Fault::new(Case::CountFull, Layer::Memory));
-        }
-        let fate = self.supply.draw();
-        step_counter(&mut self.counter, fate);
-        fate.answer(NOWHERE)
+        self.count_up()
     }
 
     fn power_up(&mut self, charge: u32, tear: u8) -> Result<(), Fault> {
-        self.supply.turn_on(charge, tear)
+        self.turn_on(charge, tear)
     }
 
     fn off(&mut self) {

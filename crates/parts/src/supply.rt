@@ -1,8 +1,8 @@
 // The supply of a part, and what it lets a change do.
 ghost use mathlib.Core.Path.{_≡_};
-ghost use mathlib.Core.Bool.{true, false};
+ghost use mathlib.Core.Bool.{false};
 ghost use Rattle.parts.specs.Strip.{stepped};
-ghost use Rattle.parts.specs.Supply.{supply as supplyOf, fateOf, drawn, turnedOn, fated, fatedRow, fatedCount, becoming};
+ghost use Rattle.parts.specs.Supply.{supply as supplyOf, fateOf, drawn, admittingRaise, fated, fatedRow, fatedCount, becoming};
 use super::cell::Cell;
 use super::counter::Counter;
 use base::Case;
@@ -34,9 +34,6 @@ pub enum Change {
     Blank,
 }
 
-/// The highest tear that there is.
-const MAX_TEAR: u8 = 2;
-
 impl Supply {
     // Off, with no charge.
     pub(super) fn new() -> Supply
@@ -66,17 +63,16 @@ impl Supply {
         }
     }
 
-    // Power on, with a charge and a tear.
-    pub(super) fn turn_on(&mut self, charge: u32, tear: u8) -> Result<(), Fault>
-        ensures answer { λ r. ⌜ r ≡ turnedOn (now (self .entry)) charge tear .0 ⌝ }
-        ensures after { λ _. ⌜ now (self .exit) ≡ turnedOn (now (self .entry)) charge tear .1 ⌝ }
+    // Refuses to let a count rise while power is off, and at its ceiling.
+    pub(super) fn admit_raise(&self, count: u32, ceiling: u32) -> Result<(), Fault>
+        ensures { λ r. ⌜ r ≡ admittingRaise (now (self .entry) .power) count ceiling ⌝ }
     {
-        if tear > MAX_TEAR {
-            return Err(Fault::new(Case::BadShape, Layer::Memory));
+        if !self.power {
+            return Err(Fault::new(Case::PowerOff, Layer::Memory));
         }
-        self.power = true;
-        self.charge = charge;
-        self.tear = tear;
+        if count >= ceiling {
+            return Err(Fault::new(Case::CountFull, Layer::Memory));
+        }
         Ok(())
     }
 }

@@ -8,11 +8,29 @@ ghost use lib.ListN.{getD, length};
 ghost use Rattle.std.specs.Changed.{with-item};
 ghost use Rattle.std.specs.Of.Vec.{vec-items, vec-len};
 ghost use Rattle.parts.specs.contracts.table.Table.{the-row};
+ghost use Rattle.parts.specs.Table.{BlankRows};
+use super::cell::Cell;
+use std::alloc::Global;
 
 /// The rows of a part.
 #[derive(Drop)]
 pub struct Table<R> {
     pub(super) cells: Vec<R>,
+}
+
+impl<R: Cell + Drop> Table<R> {
+    // So many blank rows, or none where the host has no memory for them.
+    pub(super) fn blank(heap: Global, size: u16) -> Option<Table<R>>
+        ensures { λ r. ⌜ BlankRows (R·Cell .means) size r ⌝ }
+    {
+        let mut cells = Vec::new(heap);
+        for _ in 0..size {
+            if cells.push(R::new()).is_err() {
+                return None;
+            }
+        }
+        Some(Table { cells })
+    }
 }
 
 impl<R> Table<R> {

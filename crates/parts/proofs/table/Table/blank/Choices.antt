@@ -3,7 +3,7 @@ use mathlib.Core.Path.{_≡_}
 use lib.ListN.{replicate}
 use Rattle.std.specs.Of.Vec.{vec-items, vec-len}
 use Rattle.memory.specs.Model.{blank}
-use Rattle.parts.proofs.part.Part.new.Given as given
+use Rattle.parts.proofs.table.Table.blank.Given as given
 
 abbrev pub Inv-loop : given.InvT-loop
 Inv-loop g l =

@@ -1,6 +1,6 @@
 use borrow.Author.Needs.{needs}
 use Rattle.std.proofs.shelf.Lists.{length-map}
-use Rattle.parts.proofs.part.Part.has.Needs as need
+use Rattle.parts.proofs.part.Part.extent.Needs as need
 
 pub returns : need.returns
 returns g c = search (needs, length-map)

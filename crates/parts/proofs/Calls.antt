@@ -21,7 +21,7 @@ use Rattle.parts.specs.declared.part.Part.{Part}
 use Rattle.parts.specs.declared.supply.Supply.{Supply}
 use Rattle.parts.specs.declared.supply.Fate.{Fate}
 use Rattle.parts.specs.declared.supply.Fate.the-variants.{Done, CutOld, CutNew, CutSpoilt}
-use Rattle.parts.specs.Strip.{stepped}
+use Rattle.cells.specs.Strip.{stepped}
 use Rattle.parts.specs.Supply.{supply, fateOf, drawn, admittingRaise, fated, fatedRow, fatedCount}
 use Rattle.parts.specs.Part.{heldOf, meaningOf, admitting}
 

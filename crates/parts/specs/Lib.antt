@@ -1,7 +1,4 @@
 pub mod Bounds
-pub mod Cells
-pub mod Strip
-pub mod Counters
 pub mod Supply
 pub mod Table
 pub mod Part

@@ -1,14 +1,14 @@
 // The supply of a part, and what it lets a change do.
 ghost use mathlib.Core.Path.{_≡_};
 ghost use mathlib.Core.Bool.{false};
-ghost use Rattle.parts.specs.Strip.{stepped};
+ghost use Rattle.cells.specs.Strip.{stepped};
 ghost use Rattle.parts.specs.Supply.{supply as supplyOf, fateOf, drawn, admittingRaise, fated, fatedRow, fatedCount, becoming};
-use super::cell::Cell;
-use super::counter::Counter;
 use base::Case;
 use base::Fault;
 use base::Layer;
 use base::ROW_BYTES;
+use cells::Cell;
+use cells::Counter;
 
 /// Power, the changes until the supply fails, and what the change that it fails in leaves.
 #[derive(Clone, Copy)]

@@ -9,7 +9,7 @@ ghost use Rattle.std.specs.Changed.{with-item};
 ghost use Rattle.std.specs.Of.Vec.{vec-items, vec-len};
 ghost use Rattle.parts.specs.contracts.table.Table.{the-row};
 ghost use Rattle.parts.specs.Table.{BlankRows};
-use super::cell::Cell;
+use cells::Cell;
 use std::alloc::Global;
 
 /// The rows of a part.

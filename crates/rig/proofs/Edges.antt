@@ -3,7 +3,7 @@ use mathlib.Core.Path.{refl}
 use Rattle.memory.specs.Model.{raising}
 use Rattle.std.specs.Written.{digits}
 use Rattle.reply.specs.Replies.{numbered, lineText}
-use Rattle.parts.proofs.Strips.{three}
+use Rattle.cells.proofs.Strips.{three}
 use Rattle.loader.specs.Image.{loading}
 use Rattle.rig.specs.Edges.{Edges}
 

@@ -12,7 +12,8 @@ use Rattle.base.specs.declared.Layer.the-variants.{Memory}
 use Rattle.base.specs.Faults.{fault}
 use Rattle.memory.specs.Model.{Held, Mem}
 use Rattle.memory.specs.Shown.{shownMem}
-use Rattle.parts.specs.Bounds.{maxRows, registerLimit, stripBits}
+use Rattle.cells.specs.Bounds.{registerLimit, stripBits}
+use Rattle.parts.specs.Bounds.{maxRows}
 use Rattle.parts.specs.Part.{newMem}
 use Rattle.script.specs.declared.commands.Style.{Style}
 use Rattle.script.specs.declared.commands.Style.the-variants.{Rewriting, Flash}

@@ -12,7 +12,7 @@ use Rattle.base.specs.Faults.{faultAt, fault as faultOf}
 use Rattle.memory.specs.Model.{Row, written, blank, spoilt, Held, Mem, raising}
 use Rattle.memory.specs.declared.RowKind.the-variants.{Written, Blank, Spoilt}
 use Rattle.reply.specs.Replies.{lineText, refused, count, rows, loaded}
-use Rattle.parts.specs.Strip.{zeros, Legal, threeStrip}
+use Rattle.cells.specs.Strip.{zeros, Legal, threeStrip}
 use Rattle.loader.specs.Image.{sumBytes, whole, loading}
 
 -- A row of zeros but for its eighth byte, where a version ends, and its last word, of bytes a and b.

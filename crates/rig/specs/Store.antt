@@ -8,10 +8,10 @@ use Rattle.memory.specs.Model.{Mem}
 use Rattle.memory.specs.View.{viewOf}
 use Rattle.memory.specs.declared.window.Window.{Window}
 use Rattle.parts.specs.Kinds.{rewritingMeans, flashPartMeans}
-use Rattle.parts.specs.declared.cell.PlainRow.{PlainRow}
-use Rattle.parts.specs.declared.cell.FlashRow.{FlashRow}
-use Rattle.parts.specs.declared.counter.Register.{Register}
-use Rattle.parts.specs.declared.strip.Strip.{Strip}
+use Rattle.cells.specs.declared.cell.PlainRow.{PlainRow}
+use Rattle.cells.specs.declared.cell.FlashRow.{FlashRow}
+use Rattle.cells.specs.declared.counter.Register.{Register}
+use Rattle.cells.specs.declared.strip.Strip.{Strip}
 use Rattle.parts.specs.declared.part.Part.{Part}
 use Rattle.parts.specs.declared.NotMade.{NotMade}
 use Rattle.parts.specs.Part.{InRange, Refusal}

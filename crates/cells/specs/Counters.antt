@@ -1,8 +1,8 @@
 -- What the two counters count. Assumes nothing.
 use Prim.Native.Nat.{ℕ}
-use Rattle.parts.specs.declared.counter.Register.{Register}
-use Rattle.parts.specs.declared.strip.Strip.{Strip}
-use Rattle.parts.specs.Strip.{zeros}
+use Rattle.cells.specs.declared.counter.Register.{Register}
+use Rattle.cells.specs.declared.strip.Strip.{Strip}
+use Rattle.cells.specs.Strip.{zeros}
 
 -- A register holds its count.
 abbrev pub registerCount : Register → ℕ

@@ -1,6 +1,6 @@
 use borrow.Author.Needs.{needs}
-use Rattle.parts.proofs.Strips.{zeros-more, zeros-all}
-use Rattle.parts.proofs.counter.zero_bits.Needs as need
+use Rattle.cells.proofs.Strips.{zeros-more, zeros-all}
+use Rattle.cells.proofs.counter.zero_bits.Needs as need
 
 pub loop-byte-again : need.loop-byte-again
 loop-byte-again c = search (needs, zeros-more)

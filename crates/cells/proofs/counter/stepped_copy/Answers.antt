@@ -1,6 +1,6 @@
 use native.Mathlib.Omega.{arith}
-use Rattle.parts.proofs.Strips.{masked, stays, after-step, strip-laws}
-use Rattle.parts.proofs.counter.stepped_copy.Needs as need
+use Rattle.cells.proofs.Strips.{masked, stays, after-step, strip-laws}
+use Rattle.cells.proofs.counter.stepped_copy.Needs as need
 
 pub returns-then-place-lt-STRIP-BYTES : need.returns-then-place-lt-STRIP-BYTES
 returns-then-place-lt-STRIP-BYTES c =

@@ -6,7 +6,7 @@ use Prim.Native.Nat.{ℕ, zero, suc, _+_, _-_, _/_, _%_, _^_, _<_, _≤_, min}
 use lib.Count.{ones}
 use lib.Dec.{eqb, ltb}
 use lib.ListN.{length, getD, replicate}
-use Rattle.parts.specs.Bounds.{stripBytes, stripBits}
+use Rattle.cells.specs.Bounds.{stripBytes, stripBits}
 
 -- The zero bits of a byte, and of a strip: its count.
 abbrev pub zeroBits : ℕ → ℕ

@@ -2,9 +2,9 @@
 ghost use mathlib.Core.Path.{_≡_};
 ghost use Prim.Native.Nat.{ℕ, _/_, _^_, _<_};
 ghost use lib.Bits.{bitAnd};
-ghost use Rattle.parts.specs.Bounds.{registerLimit, stripBits};
-ghost use Rattle.parts.specs.Counters.{registerCount, stripCount};
-ghost use Rattle.parts.specs.Strip.{zeros, Legal, stepped, steppedStrip, newStrip, StripLaws};
+ghost use Rattle.cells.specs.Bounds.{registerLimit, stripBits};
+ghost use Rattle.cells.specs.Counters.{registerCount, stripCount};
+ghost use Rattle.cells.specs.Strip.{zeros, Legal, stepped, steppedStrip, newStrip, StripLaws};
 use super::strip::STRIP_BYTES;
 use super::strip::Strip;
 

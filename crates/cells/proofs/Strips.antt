@@ -12,8 +12,8 @@ use lib.ListN.{length, getD, set, drop, replicate}
 use Rattle.std.proofs.shelf.Lists.{at-drop-more, at-drop-all}
 use Rattle.std.proofs.shelf.Tests.{ltb-true, eqb-true, lt-ltb, le-ltb, cases-lt, cases-eq, and-parts, cond-true, cond-false, cond-both}
 use Rattle.std.proofs.shelf.Ways.{tells}
-use Rattle.parts.specs.Bounds.{stripBytes, stripBits}
-use Rattle.parts.specs.Strip.{zeroBits, zeros, byteOf, cleared, Legal, stepped, steppedStrip, bitAt, newStrip, threeStrip, Stepped, StripLaws}
+use Rattle.cells.specs.Bounds.{stripBytes, stripBits}
+use Rattle.cells.specs.Strip.{zeroBits, zeros, byteOf, cleared, Legal, stepped, steppedStrip, bitAt, newStrip, threeStrip, Stepped, StripLaws}
 
 -- The nine bytes of a strip, by computing.
 byte-zeros : (k : ℕ) → k ≤ 8 → zeroBits (byteOf k) ≡ k

@@ -1,7 +1,7 @@
 // The rows of a part's table: a rewriting part's name their kind, a flash part's have a mark.
 ghost use mathlib.Core.Path.{_≡_};
 ghost use Rattle.memory.specs.Model.{Row, written, blank as blankRow, spoilt, kindOf, shownOf};
-ghost use Rattle.parts.specs.Cells.{byKind, plainMeans, flashMeans, marked, allBlank, writtenMark, spoiltMark};
+ghost use Rattle.cells.specs.Cells.{byKind, plainMeans, flashMeans, marked, allBlank, writtenMark, spoiltMark};
 use base::ROW_BYTES;
 use memory::RowKind;
 

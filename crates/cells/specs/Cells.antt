@@ -7,8 +7,8 @@ use lib.ListN.{replicate}
 use Rattle.memory.specs.declared.RowKind.{RowKind}
 use Rattle.memory.specs.declared.RowKind.the-variants.{Written, Blank, Spoilt}
 use Rattle.memory.specs.Model.{Row, written, blank, spoilt}
-use Rattle.parts.specs.declared.cell.PlainRow.{PlainRow}
-use Rattle.parts.specs.declared.cell.FlashRow.{FlashRow}
+use Rattle.cells.specs.declared.cell.PlainRow.{PlainRow}
+use Rattle.cells.specs.declared.cell.FlashRow.{FlashRow}
 
 -- A row of a kind. Only a written one has bytes.
 abbrev pub byKind : RowKind → List ℕ → Row

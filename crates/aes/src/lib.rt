@@ -1,4 +1,6 @@
 // AES-128 and AES-128-CMAC.
+#![tactic(auto)]
+
 mod block;
 mod cipher;
 mod mac;

@@ -1,5 +1,7 @@
 // What every crate above shares: faults, numbers in bytes, the working area.
-ghost use Rattle.std.specs.Prelude.{◌≡◌, Decides};
+#![tactic(auto)]
+
+ghost use Rattle.std.specs.Prelude.{◌≡◌, ◌==◌, Decides};
 ghost use Rattle.base.specs.Faults.{number as number_of, layer_number, fault_at, fault};
 ghost use Rattle.base.specs.Numbers.{leading};
 ghost use Rattle.std.specs.Cmp.Rules.{comparing};
@@ -82,11 +84,14 @@ fn same_case(a: Case, b: Case) -> bool
 }
 
 impl PartialEq for Case {
-    ghost equals = { λ a b r. Decides r (a ≡ b) };
+    ghost eq = { λ a b. number_of a == number_of b };
 
     ghost laws = { Keys.partial_equiv_from_equiv (Prim.search (comparing, rules)) };
 
-    fn eq(&self, other: &Case) -> bool {
+    fn eq(&self, other: &Case) -> bool
+        ensures is { result ≡ (number_of self.now == number_of other.now) }
+        ensures decides { Decides result (self.now ≡ other.now) }
+    {
         same_case(*self, *other)
     }
 }

@@ -1,4 +1,6 @@
 // The bench: a script on standard input, one line for each command on standard output.
+#![tactic(auto)]
+
 use rig::transcript;
 use std::io;
 use std::io::{Read, Write};

@@ -1,4 +1,6 @@
 // What parts are made of: the rows of a table, and the counters.
+#![tactic(auto)]
+
 mod cell;
 mod counter;
 mod strip;

@@ -1,4 +1,6 @@
 // Who a message is for: identities, which write themselves as twelve bytes.
+#![tactic(auto)]
+
 ghost use Rattle.std.specs.Prelude.{◌≡◌, ℕ, ◌≤◌, true, List, ◌++◌, length, drop, replicate, Decides};
 ghost use Rattle.std.specs.Str.{bytes_eq};
 ghost use Rattle.base.specs.Numbers.{big_endian};

@@ -1,4 +1,6 @@
 // Which of two images a terminal runs.
+#![tactic(auto)]
+
 ghost use Rattle.std.specs.Prelude.{◌≡◌, ◌+◌, ◌*◌, ◌<◌, ◌≤◌, length};
 ghost use Rattle.loader.specs.Image.{add16, word_at, sum_bytes, whole_by, shaped, looking, choosing, loading};
 ghost use Rattle.loader.specs.Laws.{SumLaws, StandingLaws};

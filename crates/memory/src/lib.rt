@@ -1,4 +1,6 @@
 // The kinds of a row, the traits that every memory has, and the window onto a memory.
+#![tactic(auto)]
+
 ghost use Rattle.std.specs.Prelude.{◌≡◌, length};
 ghost use Rattle.memory.specs.Model.{Held, Mem, reading, probing, writing, blanking, raising, powering_up, switching_off};
 

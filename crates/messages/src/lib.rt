@@ -1,4 +1,6 @@
 // The messages between a server and a terminal: their kinds, reading and writing them, and an entry for C.
+#![tactic(auto)]
+
 mod entry;
 mod fields;
 mod kind;

@@ -1,4 +1,6 @@
 // Two memory parts: one that can be rewritten, and a flash part whose bits are only cleared.
+#![tactic(auto)]
+
 ghost use Rattle.std.specs.Prelude.{◌≡◌, length, vec_len};
 ghost use Rattle.memory.specs.Model.{reading, putting, raising, powering_up};
 ghost use Rattle.parts.specs.Part.{held_of, meaning_of, admitting, Made};

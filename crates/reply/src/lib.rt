@@ -1,4 +1,6 @@
 // What a command is answered, and how it is printed.
+#![tactic(auto)]
+
 ghost use Rattle.std.specs.Prelude.{◌≡◌, ℕ, ◌+◌, ◌<◌, [], ◌∷◌, ◌++◌, map, is_ok, if◌then◌else◌, codes, decimal};
 ghost use Rattle.script.specs.Words.{hex_digit, hex_text};
 ghost use Rattle.reply.specs.Replies.{said, kind_text, kind_letter, numbered, case_text, layer_text, fault_text, text_of, line_text, Puts};

@@ -13,10 +13,10 @@ use Rattle.parts.specs.declared.part.Part.{Part}
 use Rattle.parts.specs.declared.NotMade.{NotMade}
 use Rattle.parts.specs.Part.{InRange, Refusal}
 use Rattle.script.specs.declared.commands.Style.{Style}
-use Rattle.either.specs.declared.Either.{Either}
-use Rattle.either.specs.declared.Either.TheVariants.{Left, Right}
+use Rattle.either_memory.specs.declared.Either.{Either}
+use Rattle.either_memory.specs.declared.Either.TheVariants.{Left, Right}
 use Rattle.rig.specs.declared.desk.Rig.{Rig}
-use Rattle.either.specs.Either.{either_of}
+use Rattle.either_memory.specs.Either.{either_of}
 use Rattle.rig.specs.Desk.{Setup, setup, Desk, new_part}
 
 abbrev pub AnyPart : Type 0

@@ -7,7 +7,7 @@ ghost use Rattle.rig.specs.Store.{setup_of, desk_of, PartMade};
 
 use super::work::apply;
 use cells::{Cell, Counter};
-use either::Either;
+use either_memory::Either;
 use memory::Window;
 use parts::{Flash, NotMade, Part, Rewriting};
 use reply::Reply;

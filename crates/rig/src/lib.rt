@@ -1,4 +1,6 @@
 // What stands on the bench, and what a script makes of it.
+#![tactic(auto)]
+
 mod desk;
 mod run;
 mod work;

@@ -1,4 +1,6 @@
 // The text of a bench script: from bytes to commands.
+#![tactic(auto)]
+
 mod commands;
 mod numbers;
 mod text;

@@ -1,4 +1,6 @@
 // Tags: eight bytes that a key and a text have in common.
+#![tactic(auto)]
+
 ghost use Rattle.std.specs.Prelude.{◌≡◌, ℕ, ◌+◌, ◌-◌, ◌≤◌, List, ◌++◌, length, OnOk};
 ghost use Rattle.base.specs.Work.{zeros, after, work_bytes};
 ghost use Rattle.tagging.specs.Tags.{tag_answer, tag_first, tag_from, tag_bytes, text_bytes, Room};

@@ -1,4 +1,6 @@
 // The taggers for C: the library that the benchmarks link.
+#![tactic(auto)]
+
 ghost use Rattle.std.specs.Prelude.{◌≡◌, ℕ, length};
 ghost use Rattle.base.specs.Work.{zeros, after};
 ghost use Rattle.tagging.specs.Sip.{sip_tag};

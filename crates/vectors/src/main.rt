@@ -1,5 +1,7 @@
 // The published vectors of SipHash-2-4, AES-128 and AES-128-CMAC, and both taggers beside separate code. A line says of how
 // many it holds that the product and the separate code give what they should.
+#![tactic(auto)]
+
 mod compare;
 mod published;
 mod separate;

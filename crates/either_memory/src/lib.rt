@@ -1,5 +1,7 @@
 // One of two things of a kind, where only the run tells which: a memory that is one of two.
-ghost use Rattle.either.specs.Either.{either_of};
+#![tactic(auto)]
+
+ghost use Rattle.either_memory.specs.Either.{either_of};
 ghost use Rattle.std.proofs.Common.{rules};
 
 use base::{Fault, ROW_BYTES};

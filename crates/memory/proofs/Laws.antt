@@ -1,11 +1,11 @@
 -- The laws of a memory's calls. Assumes nothing.
-use Rattle.std.proofs.Common.{◌≡◌, ℕ, ◌+◌, ◌<◌, ◌≤◌, true, false, cond, eqb, ltb, ◌≢◌, ◌⊎◌, length, get_or, set, Ok, Err, refl, inl, inr, arith, length-set, get_or-set_other, get_or-set_same}
+use Rattle.std.proofs.Common.{◌≡◌, ℕ, ◌+◌, true, false, ◌≢◌, ◌⊎◌, length, Ok, Err, refl, inl, inr, arith, length-set, get_or-set_other, get_or-set_same}
 use Rattle.std.proofs.lemmas.Bool.{cases_lt}
 use Rattle.std.proofs.lemmas.Bool.Decides.{nat_tests}
 use Rattle.base.specs.declared.Case.TheVariants.{PowerCut}
 use Rattle.base.specs.declared.Layer.TheVariants.{Memory}
-use Rattle.base.specs.Faults.{fault_at, fault}
-use Rattle.memory.specs.Model.{Row, blank, spoilt, Mem, at, torn, torn_count, putting, raising, powering_up, switching_off}
+use Rattle.base.specs.Faults.{fault_at}
+use Rattle.memory.specs.Model.{Row, blank, spoilt, Mem, at, torn, putting, raising, powering_up, switching_off}
 use Rattle.memory.specs.Laws.{PutLaws, RaiseLaws, SupplyLaws}
 
 module _ (m : Mem) (i : ℕ) (x : Row) where

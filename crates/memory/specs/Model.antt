@@ -1,6 +1,5 @@
 -- What a memory means, and what each call answers and leaves. Assumes nothing.
 use Rattle.std.specs.Prelude.{ℕ, ◌+◌, ◌-◌, Bool, true, false, cond, List, length, replicate, Some, None, Ok, Err, Option, Result, ◌==◌, nat_lt, slice_index_or, slice_set}
-use Rattle.base.specs.declared.Case.{Case}
 use Rattle.base.specs.declared.Case.TheVariants.{BadShape, NoRow, PowerOff, PowerCut, CountFull}
 use Rattle.base.specs.declared.Layer.TheVariants.{Memory}
 use Rattle.base.specs.declared.Fault.{Fault}

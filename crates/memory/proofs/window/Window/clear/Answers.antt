@@ -1,4 +1,4 @@
-use Rattle.std.proofs.Common.{◌≡◌, ◌<◌, ◌≤◌, length}
+use Rattle.std.proofs.Common.{◌<◌, ◌≤◌, length}
 use Rattle.memory.specs.Model.{blank}
 use Rattle.memory.specs.View.{view_of}
 use Rattle.memory.proofs.Windows.{did_put, did_nothing}
@@ -11,8 +11,8 @@ returns g c =
     let within : c.args.row < length (view_of g.M.Memory.meaning w).held.rows = rw (g.met.M.Memory.agrees w.inner) at p.1 in
     did_put g.M.Memory.meaning w c.blank.new.self c.renumbered.result c.args.row c.in-Some.place blank p.0 within p.2 (cc) c.blank.ensures.after
 
-pub returns-in-default : goal.returns-in-default
-returns-in-default g c =
+pub returns-in_default : goal.returns-in_default
+returns-in_default g c =
     let w = c.args.self.now in
-    let beyond : length (view_of g.M.Memory.meaning w).held.rows ≤ c.args.row = rw (g.met.M.Memory.agrees w.inner) at c.in-default.ensures in
+    let beyond : length (view_of g.M.Memory.meaning w).held.rows ≤ c.args.row = rw (g.met.M.Memory.agrees w.inner) at c.in_default.ensures in
     did_nothing g.M.Memory.meaning w c.args.row blank c.at.result beyond c.at.ensures

@@ -14,6 +14,6 @@ returns g c =
     let b = shown_area w.first w.count h c.args.row p.1 fits c.args.area.now in
     record { answer = cc; area = cc }
 
-pub returns-in-default : goal.returns-in-default
+pub returns-in_default : goal.returns-in_default
 unfolding reading
-returns-in-default g c = search rules
+returns-in_default g c = search rules

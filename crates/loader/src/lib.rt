@@ -69,9 +69,9 @@ fn is_whole(version: u64, sum: u16) -> bool
 // the first that is not written.
 fn look<R: Rows>(rows: &R, first: u16, slot_rows: u16) -> Result<Option<u64>, Fault>
     requires some { 0 < slot_rows }
-    requires within { first + slot_rows ≤ length (held rows.now).rows }
+    requires within { first + slot_rows ≤ length (R.held rows.now).rows }
     requires small { first + slot_rows < 65536 }
-    ensures { result ≡ looking (held rows.now) first slot_rows }
+    ensures { result ≡ looking (R.held rows.now) first slot_rows }
 {
     let mut area = [0; ROW_BYTES];
     let mut sum = 0;
@@ -96,9 +96,9 @@ fn look<R: Rows>(rows: &R, first: u16, slot_rows: u16) -> Result<Option<u64>, Fa
 // The slot to run and its image's version, of a memory that has both slots.
 fn choose<R: Rows>(rows: &R, slot_rows: u16) -> Result<(u8, u64), Fault>
     requires some { 0 < slot_rows }
-    requires within { 2 * slot_rows ≤ length (held rows.now).rows }
+    requires within { 2 * slot_rows ≤ length (R.held rows.now).rows }
     requires small { 2 * slot_rows < 65536 }
-    ensures { result ≡ choosing (held rows.now) slot_rows }
+    ensures { result ≡ choosing (R.held rows.now) slot_rows }
 {
     if let Some(version) = look(rows, 0, slot_rows)? {
         return Ok((1, version));
@@ -118,8 +118,8 @@ fn has_slots(size: u16, slot_rows: u16) -> bool
 
 // Loads from a memory of `size` rows.
 fn load_sized<R: Rows>(rows: &R, size: u16, slot_rows: u16) -> Result<(u8, u64), Fault>
-    requires { size ≡ length (held rows.now).rows }
-    ensures answer { result ≡ loading (held rows.now) slot_rows }
+    requires { size ≡ length (R.held rows.now).rows }
+    ensures answer { result ≡ loading (R.held rows.now) slot_rows }
     ensures laws { StandingLaws }
 {
     if has_slots(size, slot_rows) {
@@ -133,7 +133,7 @@ fn load_sized<R: Rows>(rows: &R, size: u16, slot_rows: u16) -> Result<(u8, u64),
 /// the `slot_rows` after them. Refused as `BadShape` are a slot of fewer than 2 or more than 64 rows
 /// and a memory that has no room for two, as `NoImage` one with no whole image.
 pub fn load<R: Rows>(rows: &R, slot_rows: u16) -> Result<(u8, u64), Fault>
-    ensures answer { result ≡ loading (held rows.now) slot_rows }
+    ensures answer { result ≡ loading (R.held rows.now) slot_rows }
     ensures laws { StandingLaws }
 {
     load_sized(rows, rows.size(), slot_rows)

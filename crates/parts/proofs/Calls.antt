@@ -1,7 +1,7 @@
 -- How admitting a row, drawing from the supply and changing a row or the count make up the calls of a memory. Assumes nothing.
 use Rattle.std.proofs.Common.{◌≡◌, ℕ, ◌+◌, ◌-◌, ◌<◌, Bool, true, false, cond, eqb, ltb, List, map, length, get_or, set, Ok, Err, vec_items, Result, sym, refl, ap, ◌∙◌, arith}
 use Rattle.std.proofs.lemmas.List.{length-map, get_or-map, map-set}
-use Rattle.std.proofs.lemmas.Bool.{both_ways, ltb-true, lt-ltb, eqb-true, ne_eqb, cond-true}
+use Rattle.std.proofs.lemmas.Bool.{both_ways, ltb-true, eqb-true, ne_eqb, cond-true}
 use Rattle.base.specs.declared.Case.TheVariants.{NoRow, PowerOff, PowerCut, CountFull}
 use Rattle.base.specs.declared.Layer.TheVariants.{Memory}
 use Rattle.base.specs.declared.Fault.{Fault}

@@ -3,10 +3,10 @@ use Rattle.loader.specs.Image.{loading}
 use Rattle.loader.proofs.Choosing.{standing-laws}
 use Rattle.loader.proofs.load_sized.Goals as goal
 
-pub returns-then-has-slots : goal.returns-then-has-slots
+pub returns-then-has_slots : goal.returns-then-has_slots
 unfolding loading
-returns-then-has-slots g c = record { answer = search rules; laws = standing-laws }
+returns-then-has_slots g c = record { answer = search rules; laws = standing-laws }
 
-pub returns-else-has-slots : goal.returns-else-has-slots
+pub returns-else-has_slots : goal.returns-else-has_slots
 unfolding loading
-returns-else-has-slots g c = record { answer = search rules; laws = standing-laws }
+returns-else-has_slots g c = record { answer = search rules; laws = standing-laws }

@@ -23,7 +23,7 @@ fn told(answer: Result<(), Fault>) -> Reply
 }
 
 fn read_row<M: Rows>(memory: &M, row: u16) -> Reply
-    ensures { said result ≡ read_told (held memory.now) row }
+    ensures { said result ≡ read_told (M.held memory.now) row }
 {
     let mut area = [0; ROW_BYTES];
     match memory.read(row, &mut area) {
@@ -33,7 +33,7 @@ fn read_row<M: Rows>(memory: &M, row: u16) -> Reply
 }
 
 fn load_image<M: Rows>(memory: &M, slot_rows: u16) -> Reply
-    ensures { said result ≡ load_told (loading (held memory.now) slot_rows) }
+    ensures { said result ≡ load_told (loading (M.held memory.now) slot_rows) }
 {
     match load(memory, slot_rows) {
         Ok((slot, version)) => Reply::Loaded(slot, version),

@@ -10,8 +10,8 @@ loop-i-preserved g c =
     let p = probed h c.loop-i.i below in
     let m = kinds-more h.rows c.loop-i.i below in
     elim c.match-probe.branch [
-      | goal.in-Some+in-ok-push w ↦ search rules
-      | goal.in-default w ↦ search rules
+      | goal.in-Some+in_ok-push w ↦ search rules
+      | goal.in_default w ↦ search rules
     ]
 
 pub returns : goal.returns

@@ -5,4 +5,4 @@ use Rattle.script.proofs.commands.read_command.Goals as goal
 pub returns : goal.returns
 returns c =
     c.named.ensures
-    ∙ by-words c.args.line.now c.split-at.result.0.now c.split-at.result.1.now c.place.result c.place.ensures.is c.split-at.ensures.front c.split-at.ensures.back
+    ∙ by-words c.args.line.now c.split_at.result.0.now c.split_at.result.1.now c.place.result c.place.ensures.is c.split_at.ensures.front c.split_at.ensures.back

@@ -2,7 +2,7 @@
 use Rattle.std.specs.Prelude.{◌≡◌, ℕ, ◌^◌, ◌<◌, ◌≢◌, List, [], ◌∷◌, ◌++◌, length, Some, None, codes, decimal}
 use Rattle.std.specs.List.{flat_map, AllByRecursion as All}
 use Rattle.script.specs.declared.commands.Style.TheVariants.{Flash}
-use Rattle.script.specs.declared.commands.Command.TheVariants.{Part, Power, Off}
+use Rattle.script.specs.declared.commands.Command.TheVariants.{Part, Power}
 use Rattle.script.specs.Text.{lines_of, words_of, cleaned_text}
 use Rattle.script.specs.Words.{number_of, bytes_in, hex_text}
 use Rattle.script.specs.Commands.{command_of}

@@ -1,6 +1,6 @@
-use Rattle.std.proofs.Common.{sym, ◌∙◌, arith}
+use Rattle.std.proofs.Common.{sym, arith}
 use Rattle.std.proofs.lemmas.Bool.{eqb-false}
-use Rattle.script.proofs.Readings.{reads_bad, reads-past, reads_more, reads_end}
+use Rattle.script.proofs.Readings.{reads_bad, reads_past, reads_more, reads_end}
 use Rattle.script.proofs.numbers.number_in.Goals as goal
 
 pub returns-then-value-base : goal.returns-then-value-base
@@ -11,7 +11,7 @@ returns-then-value-base c = record {
 
 pub returns-in_err-n : goal.returns-in_err-n
 returns-in_err-n c = rw c.from_residual.ensures (record {
-  is = reads-past c.args.base c.args.most c.loop-byte.n c.args.digits.now c.loop-byte.byte-index c.digit-value.result c.loop-byte.invariant.1 c.loop-byte-test.true c.digit-value.ensures.is c.if-value-base.false c.in_err-n.ensures;
+  is = reads_past c.args.base c.args.most c.loop-byte.n c.args.digits.now c.loop-byte.byte-index c.digit-value.result c.loop-byte.invariant.1 c.loop-byte-test.true c.digit-value.ensures.is c.if-value-base.false c.in_err-n.ensures;
   small = tt;
 })
 

@@ -2,7 +2,7 @@
 use Rattle.std.proofs.Common.{◌≡◌, ℕ, ◌+◌, ◌*◌, ◌/◌, ◌%◌, ◌^◌, ◌<◌, true, false, eqb, ltb, List, [], ◌∷◌, ◌++◌, length, Some, decimal, sym, refl, ap, ◌∙◌, arith}
 use Rattle.std.specs.Str.Parse.{AllDigits, digits_value_after}
 use Rattle.std.specs.Char.{digit_value}
-use Rattle.std.specs.List.{flat_map, AllByRecursion as All}
+use Rattle.std.specs.List.{flat_map, AllByRecursion}
 use Rattle.std.specs.Option.{option_map}
 use Rattle.std.proofs.lemmas.Fmt.{decimal_is_IsNumeral}
 use Rattle.std.proofs.lemmas.List.{append_assoc}
@@ -19,7 +19,7 @@ unfolding lines_of
 line_first [] rest h = refl
 line_first (x ∷ l) rest h = let t : eqb x 10 ≡ false = ne_eqb x 10 h.0 in simp (t, line_first l rest h.1)
 
-lines_are : (ls : List (List ℕ)) → All (Lacks 10) ls → lines_of (flat_map (λ l. l ++ (10 ∷ [])) ls) ≡ ls
+lines_are : (ls : List (List ℕ)) → AllByRecursion (Lacks 10) ls → lines_of (flat_map (λ l. l ++ (10 ∷ [])) ls) ≡ ls
 unfolding lines_of
 lines_are [] h = refl
 lines_are (l ∷ ls) h =
@@ -36,14 +36,14 @@ unfolding words_of
 word_first [] rest h = refl
 word_first (x ∷ w) rest h = let t : eqb x 32 ≡ false = ne_eqb x 32 h.0 in simp (t, word_first w rest h.1)
 
-words_are : (w : List ℕ) (ws : List (List ℕ)) → Lacks 32 w → All (Lacks 32) ws → words_of (w ++ flat_map (λ x. 32 ∷ x) ws) ≡ w ∷ ws
+words_are : (w : List ℕ) (ws : List (List ℕ)) → Lacks 32 w → AllByRecursion (Lacks 32) ws → words_of (w ++ flat_map (λ x. 32 ∷ x) ws) ≡ w ∷ ws
 words_are w [] h hs = last_word w h
 words_are w (v ∷ ws) h hs = word_first w (v ++ flat_map (λ x. 32 ∷ x) ws) h ∙ ap (λ x. w ∷ x) (words_are v ws hs.0 hs.1)
 
 digit_back : (d : ℕ) → d < 16 → digit_of (hex_digit d) ≡ d
 digit_back d l = grind (arith, nat_tests)
 
-bytes_back : (bs : List ℕ) → All (λ b. b < 256) bs → bytes_of (hex_text bs) ≡ Some bs
+bytes_back : (bs : List ℕ) → AllByRecursion (λ b. b < 256) bs → bytes_of (hex_text bs) ≡ Some bs
 unfolding hex_text bytes_of
 bytes_back [] h = refl
 bytes_back (b ∷ bs) h =
@@ -58,7 +58,7 @@ unfolding hex_text
 hex_length [] = refl
 hex_length (b ∷ bs) = omega (arith, hex_length bs)
 
-row_back : (bs : List ℕ) → All (λ b. b < 256) bs → bytes_in (length bs) (hex_text bs) ≡ Some bs
+row_back : (bs : List ℕ) → AllByRecursion (λ b. b < 256) bs → bytes_in (length bs) (hex_text bs) ≡ Some bs
 unfolding bytes_in
 row_back bs h = let t : eqb (length (hex_text bs)) (2 * length bs) ≡ true = eq-eqb _ _ (hex_length bs) in simp t (bytes_back bs h)
 

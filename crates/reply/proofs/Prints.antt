@@ -26,8 +26,8 @@ keeps_trans old mid new k =
     let split : mid ≡ old ++ drop (length old) mid = sym (take-append-drop (length old) mid) ∙ ap (λ z. z ++ drop (length old) mid) k in
     keeps_then old (drop (length old) mid) mid new split
 
-pub keeps-more : (old mid a new : List ℕ) → Keeps old mid → new ≡ mid ++ a → Keeps old new
-keeps-more old mid a new k e = keeps_trans old mid new k (ap (take (length mid)) e ∙ take_at mid a (length mid) refl)
+pub keeps_more : (old mid a new : List ℕ) → Keeps old mid → new ≡ mid ++ a → Keeps old new
+keeps_more old mid a new k e = keeps_trans old mid new k (ap (take (length mid)) e ∙ take_at mid a (length mid) refl)
 
 pub puts_extended : {T E : Type 0} (r : Result T E) (old text new : List ℕ) → new ≡ cond (is_ok r) (old ++ text) old → Puts r old text new
 puts_extended (Ok v) old text new e = e
@@ -46,25 +46,25 @@ puts_broke (Ok v) old text new b k = absurd (false≢true b)
 puts_broke (Err x) old text new b k = k
 
 -- A number, by its last digit.
-pub puts-one_digit : {T E : Type 0} (r : Result T E) (old new : List ℕ) (n : ℕ) → n < 10 → Puts r old ((48 + n) ∷ []) new → Puts r old (decimal n) new
-puts-one_digit r old new n l p = puts_is r old ((48 + n) ∷ []) (decimal n) new (sym (decimal_digit n l)) p
+pub puts_one_digit : {T E : Type 0} (r : Result T E) (old new : List ℕ) (n : ℕ) → n < 10 → Puts r old ((48 + n) ∷ []) new → Puts r old (decimal n) new
+puts_one_digit r old new n l p = puts_is r old ((48 + n) ∷ []) (decimal n) new (sym (decimal_digit n l)) p
 
-pub puts-last_digit : {T E : Type 0} (r : Result T E) (old mid new : List ℕ) (n : ℕ) → 10 ≤ n → n < 2 ^ 64 → mid ≡ old ++ decimal (n / 10) → Puts r mid ((48 + n % 10) ∷ []) new → Puts r old (decimal n) new
-puts-last_digit r old mid new n l b e p =
+pub puts_last_digit : {T E : Type 0} (r : Result T E) (old mid new : List ℕ) (n : ℕ) → 10 ≤ n → n < 2 ^ 64 → mid ≡ old ++ decimal (n / 10) → Puts r mid ((48 + n % 10) ∷ []) new → Puts r old (decimal n) new
+puts_last_digit r old mid new n l b e p =
     puts_is r old (decimal (n / 10) ++ ((48 + n % 10) ∷ [])) (decimal n) new (sym (decimal_step n l b)) (puts_then r old (decimal (n / 10)) mid ((48 + n % 10) ∷ []) new e p)
 
 -- A loop that writes a part for each item of a list: so far, what is written and what is left make all.
 abbrev pub Sofar : {X : Type 0} → (List X → List ℕ) → List ℕ → List ℕ → List X → ℕ → Type 0
 Sofar all old mid xs i = Keeps old mid × (mid ++ all (drop i xs) ≡ old ++ all xs)
 
-pub sofar-none : {X : Type 0} (all : List X → List ℕ) (old : List ℕ) (xs : List X) → Sofar all old old xs 0
-sofar-none all old xs = (keeps_same old, refl)
+pub sofar_none : {X : Type 0} (all : List X → List ℕ) (old : List ℕ) (xs : List X) → Sofar all old old xs 0
+sofar_none all old xs = (keeps_same old, refl)
 
-pub sofar-more : {X : Type 0} (all : List X → List ℕ) (part : X → List ℕ) (old mid new : List ℕ) (xs : List X) (i : ℕ) (x d : X) → ((y : X) (ys : List X) → all (y ∷ ys) ≡ part y ++ all ys) → i < length xs → x ≡ get_or xs i d → new ≡ mid ++ part x → Sofar all old mid xs i → Sofar all old new xs (i + 1)
-sofar-more all part old mid new xs i x d step l is e inv =
+pub sofar_more : {X : Type 0} (all : List X → List ℕ) (part : X → List ℕ) (old mid new : List ℕ) (xs : List X) (i : ℕ) (x d : X) → ((y : X) (ys : List X) → all (y ∷ ys) ≡ part y ++ all ys) → i < length xs → x ≡ get_or xs i d → new ≡ mid ++ part x → Sofar all old mid xs i → Sofar all old new xs (i + 1)
+sofar_more all part old mid new xs i x d step l is e inv =
     let rest = all (drop (i + 1) xs) in
     let split : all (drop i xs) ≡ part x ++ rest = ap all (drop_more xs i d l ∙ ap (λ y. y ∷ drop (i + 1) xs) (sym is)) ∙ step x (drop (i + 1) xs) in
-    (keeps-more old mid (part x) new inv.0 e, ap (λ z. z ++ rest) e ∙ append_assoc mid (part x) rest ∙ sym (ap (λ z. mid ++ z) split) ∙ inv.1)
+    (keeps_more old mid (part x) new inv.0 e, ap (λ z. z ++ rest) e ∙ append_assoc mid (part x) rest ∙ sym (ap (λ z. mid ++ z) split) ∙ inv.1)
 
 pub sofar_all : {X : Type 0} (all : List X → List ℕ) (old new : List ℕ) (xs : List X) (i : ℕ) → all [] ≡ [] → length xs ≤ i → Sofar all old new xs i → new ≡ old ++ all xs
 sofar_all all old new xs i none l inv = sym (ap (λ z. new ++ z) (at_drop_all all xs i l ∙ none) ∙ append-nil new) ∙ inv.1

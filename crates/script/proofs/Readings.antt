@@ -57,8 +57,8 @@ pub reads_bad : (base most n : ℕ) (ds : List ℕ) (i d : ℕ) → Reads base m
 reads_bad base most n ds i d inv l e b =
     sym (ap (at_most most) (digit_bad base n ds i d l e b)) ∙ inv ∙ sym (ap (at_most most) (some_digits base ds (omega arith)))
 
-pub reads-past : (base most n : ℕ) (ds : List ℕ) (i d : ℕ) → Reads base most n ds i → i < length ds → d ≡ digit_of (get_or ds i 0) → d < base → None ≡ at_most most (Some (n * base + d)) → None ≡ at_most most (in_base base ds)
-reads-past base most n ds i d inv l e b none =
+pub reads_past : (base most n : ℕ) (ds : List ℕ) (i d : ℕ) → Reads base most n ds i → i < length ds → d ≡ digit_of (get_or ds i 0) → d < base → None ≡ at_most most (Some (n * base + d)) → None ≡ at_most most (in_base base ds)
+reads_past base most n ds i d inv l e b none =
     sym (too_great base most (omega arith) (n * base + d) (drop (i + 1) ds) (above_from most (n * base + d) none))
     ∙ sym (ap (at_most most) (digit_more base n ds i d l e b)) ∙ inv ∙ sym (ap (at_most most) (some_digits base ds (omega arith)))
 
@@ -74,14 +74,14 @@ reads_end base most n ds i inv w some l =
     here ∙ sym (ap (at_most most) (digits_end base n ds i l)) ∙ inv ∙ sym (ap (at_most most) (some_digits base ds some))
 
 -- Two digits more, and two of which one is none.
-two-more : (ds : List ℕ) (i : ℕ) → 2 * i + 1 < length ds → drop (2 * i) ds ≡ get_or ds (2 * i) 0 ∷ (get_or ds (2 * i + 1) 0 ∷ drop (2 * (i + 1)) ds)
-two-more ds i l =
+two_more : (ds : List ℕ) (i : ℕ) → 2 * i + 1 < length ds → drop (2 * i) ds ≡ get_or ds (2 * i) 0 ∷ (get_or ds (2 * i + 1) 0 ∷ drop (2 * (i + 1)) ds)
+two_more ds i l =
     let k : 2 * i + 1 + 1 ≡ 2 * (i + 1) = omega arith in
     drop_more ds (2 * i) 0 (omega arith) ∙ ap (λ t. get_or ds (2 * i) 0 ∷ t) (drop_more ds (2 * i + 1) 0 l ∙ ap (λ j. get_or ds (2 * i + 1) 0 ∷ drop j ds) k)
 
-pub bytes-at : (a b : ℕ) (rest : List ℕ) (h l : ℕ) → h ≡ digit_of a → l ≡ digit_of b → h < 16 → l < 16 → bytes_of (a ∷ (b ∷ rest)) ≡ option_map (λ bs. (h * 16 + l) ∷ bs) (bytes_of rest)
+pub bytes_at : (a b : ℕ) (rest : List ℕ) (h l : ℕ) → h ≡ digit_of a → l ≡ digit_of b → h < 16 → l < 16 → bytes_of (a ∷ (b ∷ rest)) ≡ option_map (λ bs. (h * 16 + l) ∷ bs) (bytes_of rest)
 unfolding bytes_of
-bytes-at a b rest h l eh el sh sl =
+bytes_at a b rest h l eh el sh sl =
     let th : ltb (digit_of a) 16 ≡ true = rw (← eh) (lt-ltb h 16 sh) in
     let tl : ltb (digit_of b) 16 ≡ true = rw (← el) (lt-ltb l 16 sl) in
     simp (th, tl, eh, el)
@@ -102,17 +102,17 @@ mapped_more xs y (Some bs) = ap Some (append_assoc xs (y ∷ []) bs)
 abbrev pub Fills : (ds area : List ℕ) (i : ℕ) → Type 0
 Fills ds area i = option_map (λ bs. take i area ++ bs) (bytes_of (drop (2 * i) ds)) ≡ bytes_of ds
 
-pub fills-more : (ds area : List ℕ) (i h l : ℕ) → Fills ds area i → length ds ≡ 2 * length area → i < length area → h ≡ digit_of (get_or ds (2 * i) 0) → l ≡ digit_of (get_or ds (2 * i + 1) 0) → h < 16 → l < 16 → Fills ds (set area i (h * 16 + l)) (i + 1)
-fills-more ds area i h l inv long at eh el sh sl =
+pub fills_more : (ds area : List ℕ) (i h l : ℕ) → Fills ds area i → length ds ≡ 2 * length area → i < length area → h ≡ digit_of (get_or ds (2 * i) 0) → l ≡ digit_of (get_or ds (2 * i + 1) 0) → h < 16 → l < 16 → Fills ds (set area i (h * 16 + l)) (i + 1)
+fills_more ds area i h l inv long at eh el sh sl =
     let rest = bytes_of (drop (2 * (i + 1)) ds) in
-    let split : bytes_of (drop (2 * i) ds) ≡ option_map (λ bs. (h * 16 + l) ∷ bs) rest = ap bytes_of (two-more ds i (omega arith)) ∙ bytes-at _ _ _ h l eh el sh sl in
+    let split : bytes_of (drop (2 * i) ds) ≡ option_map (λ bs. (h * 16 + l) ∷ bs) rest = ap bytes_of (two_more ds i (omega arith)) ∙ bytes_at _ _ _ h l eh el sh sl in
     ap (λ xs. option_map (λ bs. xs ++ bs) rest) (take_more_set area i (h * 16 + l) at)
     ∙ mapped_more (take i area) (h * 16 + l) rest
     ∙ sym (ap (option_map (λ bs. take i area ++ bs)) split) ∙ inv
 
 pub fills_bad : (ds area : List ℕ) (i h l : ℕ) → Fills ds area i → length ds ≡ 2 * length area → i < length area → h ≡ digit_of (get_or ds (2 * i) 0) → l ≡ digit_of (get_or ds (2 * i + 1) 0) → (16 ≤ h) ⊎ ((h < 16) × (16 ≤ l)) → bytes_of ds ≡ None
 fills_bad ds area i h l inv long at eh el bad =
-    sym inv ∙ ap (option_map (λ bs. take i area ++ bs)) (ap bytes_of (two-more ds i (omega arith)) ∙ bytes_bad _ _ _ h l eh el bad)
+    sym inv ∙ ap (option_map (λ bs. take i area ++ bs)) (ap bytes_of (two_more ds i (omega arith)) ∙ bytes_bad _ _ _ h l eh el bad)
 
 pub fills_end : (ds area : List ℕ) (i : ℕ) → Fills ds area i → length ds ≡ 2 * length area → length area ≤ i → bytes_of ds ≡ Some area
 unfolding bytes_of

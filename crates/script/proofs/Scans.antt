@@ -19,9 +19,9 @@ back_more p xs n e z l t = omega (arith, suffix_len-take_yes p xs n 0 z l t)
 pub back_stops : (p : ℕ → Bool) (xs : List ℕ) (n : ℕ) → n + suffix_len p xs ≡ length xs + suffix_len p (take n xs) → 0 < n → n ≤ length xs → p (get_or xs (n - 1) 0) ≡ false → n ≡ length xs - suffix_len p xs
 back_stops p xs n e z l t = omega (arith, suffix_len-take_no p xs n 0 z l t)
 
-pub back-ends : (p : ℕ → Bool) (xs : List ℕ) (n : ℕ) → n + suffix_len p xs ≡ length xs + suffix_len p (take n xs) → n ≤ 0 → n ≡ length xs - suffix_len p xs
-back-ends p xs zero e l = let none : suffix_len p (take zero xs) ≡ 0 = refl in omega arith
-back-ends p xs (suc n) e l = absurd (omega arith)
+pub back_ends : (p : ℕ → Bool) (xs : List ℕ) (n : ℕ) → n + suffix_len p xs ≡ length xs + suffix_len p (take n xs) → n ≤ 0 → n ≡ length xs - suffix_len p xs
+back_ends p xs zero e l = let none : suffix_len p (take zero xs) ≡ 0 = refl in omega arith
+back_ends p xs (suc n) e l = absurd (omega arith)
 
 pub back_none : (p : ℕ → Bool) (xs : List ℕ) → length xs + suffix_len p xs ≡ length xs + suffix_len p (take (length xs) xs)
 back_none p xs = ap (λ ys. length xs + suffix_len p ys) (sym (take_all (length xs) xs (omega arith)))

@@ -1,18 +1,17 @@
 -- The laws of a script's text. Assumes nothing.
-use Rattle.std.proofs.Common.{◌≡◌, ℕ, zero, suc, ◌+◌, ◌*◌, ◌/◌, ◌%◌, ◌^◌, ◌<◌, ◌≤◌, Bool, true, false, eqb, ltb, leb, ◌≢◌, List, [], ◌∷◌, ◌++◌, length, get_or, Some, None, codes, decimal, Option, sym, refl, ap, ◌∙◌, arith}
-use Rattle.std.specs.Str.Parse.{AllDigits, digits_value, digits_value_after}
+use Rattle.std.proofs.Common.{◌≡◌, ℕ, ◌+◌, ◌*◌, ◌/◌, ◌%◌, ◌^◌, ◌<◌, true, false, eqb, ltb, List, [], ◌∷◌, ◌++◌, length, Some, decimal, sym, refl, ap, ◌∙◌, arith}
+use Rattle.std.specs.Str.Parse.{AllDigits, digits_value_after}
 use Rattle.std.specs.Char.{digit_value}
-use Rattle.std.specs.Fmt.{digits}
-use Rattle.std.specs.List.{flat_map, AllByRecursion as All}
+use Rattle.std.specs.List.{flat_map, AllByRecursion}
 use Rattle.std.specs.Option.{option_map}
 use Rattle.std.proofs.lemmas.Fmt.{decimal_is_IsNumeral}
 use Rattle.std.proofs.lemmas.List.{append_assoc}
 use Rattle.std.proofs.lemmas.Bool.{ne_eqb, eq-eqb, lt-ltb, and_right, both_ways}
 use Rattle.std.proofs.lemmas.Bool.Decides.{nat_tests}
-use Rattle.script.specs.Text.{lines_of, words_of, cleaned_text}
-use Rattle.script.specs.Words.{digit_of, number_from, in_base, is_hex, number_of, number_to, bytes_of, bytes_in, hex_digit, hex_text}
+use Rattle.script.specs.Text.{lines_of, words_of}
+use Rattle.script.specs.Words.{digit_of, number_from, is_hex, number_of, number_to, bytes_of, bytes_in, hex_digit, hex_text}
 use Rattle.script.specs.Commands.{is_text, command_of}
-use Rattle.script.proofs.Readings.{some_digits, bytes-at}
+use Rattle.script.proofs.Readings.{some_digits, bytes_at}
 use Rattle.script.specs.Laws.{Lacks, ScriptLaws, Examples}
 
 line_first : (l rest : List ℕ) → Lacks 10 l → lines_of (l ++ (10 ∷ rest)) ≡ l ∷ lines_of rest
@@ -20,7 +19,7 @@ unfolding lines_of
 line_first [] rest h = refl
 line_first (x ∷ l) rest h = let t : eqb x 10 ≡ false = ne_eqb x 10 h.0 in simp (t, line_first l rest h.1)
 
-lines_are : (ls : List (List ℕ)) → All (Lacks 10) ls → lines_of (flat_map (λ l. l ++ (10 ∷ [])) ls) ≡ ls
+lines_are : (ls : List (List ℕ)) → AllByRecursion (Lacks 10) ls → lines_of (flat_map (λ l. l ++ (10 ∷ [])) ls) ≡ ls
 unfolding lines_of
 lines_are [] h = refl
 lines_are (l ∷ ls) h =
@@ -37,21 +36,21 @@ unfolding words_of
 word_first [] rest h = refl
 word_first (x ∷ w) rest h = let t : eqb x 32 ≡ false = ne_eqb x 32 h.0 in simp (t, word_first w rest h.1)
 
-words_are : (w : List ℕ) (ws : List (List ℕ)) → Lacks 32 w → All (Lacks 32) ws → words_of (w ++ flat_map (λ x. 32 ∷ x) ws) ≡ w ∷ ws
+words_are : (w : List ℕ) (ws : List (List ℕ)) → Lacks 32 w → AllByRecursion (Lacks 32) ws → words_of (w ++ flat_map (λ x. 32 ∷ x) ws) ≡ w ∷ ws
 words_are w [] h hs = last_word w h
 words_are w (v ∷ ws) h hs = word_first w (v ++ flat_map (λ x. 32 ∷ x) ws) h ∙ ap (λ x. w ∷ x) (words_are v ws hs.0 hs.1)
 
 digit_back : (d : ℕ) → d < 16 → digit_of (hex_digit d) ≡ d
 digit_back d l = grind (arith, nat_tests)
 
-bytes_back : (bs : List ℕ) → All (λ b. b < 256) bs → bytes_of (hex_text bs) ≡ Some bs
+bytes_back : (bs : List ℕ) → AllByRecursion (λ b. b < 256) bs → bytes_of (hex_text bs) ≡ Some bs
 unfolding hex_text bytes_of
 bytes_back [] h = refl
 bytes_back (b ∷ bs) h =
     let high : digit_of (hex_digit (b / 16)) ≡ b / 16 = digit_back (b / 16) (omega (arith, h.0)) in
     let low : digit_of (hex_digit (b % 16)) ≡ b % 16 = digit_back (b % 16) (omega arith) in
     let whole : b / 16 * 16 + b % 16 ≡ b = omega arith in
-    bytes-at (hex_digit (b / 16)) (hex_digit (b % 16)) (hex_text bs) (b / 16) (b % 16) (sym high) (sym low) (omega (arith, h.0)) (omega arith)
+    bytes_at (hex_digit (b / 16)) (hex_digit (b % 16)) (hex_text bs) (b / 16) (b % 16) (sym high) (sym low) (omega (arith, h.0)) (omega arith)
     ∙ ap (option_map (λ xs. (b / 16 * 16 + b % 16) ∷ xs)) (bytes_back bs h.1) ∙ ap (λ x. Some (x ∷ bs)) whole
 
 hex_length : (bs : List ℕ) → length (hex_text bs) ≡ 2 * length bs
@@ -59,7 +58,7 @@ unfolding hex_text
 hex_length [] = refl
 hex_length (b ∷ bs) = omega (arith, hex_length bs)
 
-row_back : (bs : List ℕ) → All (λ b. b < 256) bs → bytes_in (length bs) (hex_text bs) ≡ Some bs
+row_back : (bs : List ℕ) → AllByRecursion (λ b. b < 256) bs → bytes_in (length bs) (hex_text bs) ≡ Some bs
 unfolding bytes_in
 row_back bs h = let t : eqb (length (hex_text bs)) (2 * length bs) ≡ true = eq-eqb _ _ (hex_length bs) in simp t (bytes_back bs h)
 
@@ -82,14 +81,14 @@ not_hex (a ∷ (b ∷ ds)) h =
     let no : b ≡ 120 → ⊥ = λ e. absurd (both_ways (ltb (digit_value b) 10) (ap (λ x. ltb (digit_value x) 10) e) (lt-ltb (digit_value b) 10 h.1.0)) in
     and_right (eqb a 48) (eqb b 120) (ne_eqb b 120 no)
 
-number-back : (n : ℕ) → n < 2 ^ 64 → number_of (decimal n) ≡ Some n
-number-back n l =
+number_back : (n : ℕ) → n < 2 ^ 64 → number_of (decimal n) ≡ Some n
+number_back n l =
     let reads = decimal_is_IsNumeral n l in
     let t : is_hex (decimal n) ≡ false = not_hex (decimal n) reads.0.1 in
     simp t (some_digits 10 (decimal n) reads.0.0 ∙ number_is 0 (decimal n) reads.0.1 ∙ ap Some reads.1)
 
 pub laws : ScriptLaws
-laws = record { lines = lines_are; words = words_are; bytes = row_back; numbers = number-back }
+laws = record { lines = lines_are; words = words_are; bytes = row_back; numbers = number_back }
 
 pub examples : Examples
 unfolding words_of number_from number_to bytes_of bytes_in is_text command_of

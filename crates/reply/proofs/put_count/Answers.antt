@@ -5,4 +5,4 @@ use Rattle.reply.proofs.put_count.Goals as goal
 
 pub returns : goal.returns
 returns c =
-    puts_then c.put-numbered.result (vec_items c.args.out.now) (decimal c.args.count) (vec_items c.put-number.new.out) (numbered (codes " of ") c.args.ceiling) (vec_items c.put-numbered.new.out) c.in-ok-put-number.ensures c.put-numbered.ensures
+    puts_then c.put_numbered.result (vec_items c.args.out.now) (decimal c.args.count) (vec_items c.put_number.new.out) (numbered (codes " of ") c.args.ceiling) (vec_items c.put_numbered.new.out) c.in_ok-put_number.ensures c.put_numbered.ensures

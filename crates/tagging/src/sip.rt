@@ -193,7 +193,7 @@ impl Tagger for SipHash {
         ensures answer { result ≡ tag_answer (length text.now) (length out.old) (length work.old) }
         ensures out { out.new ≡ after result (tag_first (sip_tag key.now text.now) out.old) out.old }
         ensures clean { work.new ≡ zeros (length work.old) }
-        ensures example { OnOk result (SipExample) }
+        ensures example { OnOk result SipExample }
     {
         let guard = Scratch(work);
         admit(text.len(), out.len(), guard.0.len())?;

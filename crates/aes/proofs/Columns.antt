@@ -1,11 +1,11 @@
 -- The rounds column by column. Assumes nothing.
-use Rattle.std.proofs.Common.{◌≡◌, ℕ, ◌/◌, ◌%◌, List, [], ◌∷◌, ◌++◌, sym, refl, ap, ◌∙◌}
+use Rattle.std.proofs.Common.{◌≡◌, ℕ, List, [], ◌∷◌, ◌++◌, refl, ap, ◌∙◌}
 use lib.Bits.{bit_xor}
 use Rattle.aes.specs.Cipher.{xored, shift_rows, mix_column, mix_columns, one_round, last_round, turned, next_key}
 use Rattle.aes.specs.declared.block.Block.{Block}
 use Rattle.aes.specs.Words.{word_bytes, bytes_of, round_columns, last_columns, round_column, last_column}
 use Rattle.aes.proofs.Rules.{first_part, second_part, third_part, fourth_part}
-use Rattle.aes.specs.WordsLemmas.{xor_word, joined}
+use Rattle.aes.proofs.Words.{xor_word, joined}
 
 -- Four words of the tables and one of the round key.
 pub mixed_is : (s t u v p q r w k : ℕ)

@@ -1,5 +1,5 @@
 -- What the public calls answer. Assumes nothing.
-use Rattle.std.specs.Prelude.{ℕ, ◌≤◌, cond, List, Ok, Err, Result, nat_lt}
+use Rattle.std.specs.Prelude.{ℕ, cond, List, Ok, Err, Result, nat_lt}
 use Rattle.base.specs.declared.Case.TheVariants.{ShortArea}
 use Rattle.base.specs.declared.Fault.{Fault}
 use Rattle.base.specs.declared.Layer.TheVariants.{Common}

@@ -5,5 +5,4 @@ pub mod Vectors
 pub mod Tables
 pub mod Words
 pub mod Calls
-pub mod Macs
-pub mod WordsLemmas
+pub mod Lengths

@@ -4,12 +4,10 @@ ghost use Rattle.base.specs.Work.{zeros, after, work_bytes};
 ghost use Rattle.tagging.specs.Tags.{tag_answer, tag_first, tag_bytes};
 ghost use Rattle.aes.specs.Calls.{in_room, subkeys_of};
 ghost use Rattle.aes.specs.Cipher.{ciphered};
+ghost use Rattle.aes.specs.Lengths.{length-cmac_tag};
 ghost use Rattle.aes.specs.Mac.{zero_block, doubled as doubled_block, subkey1, padded as padded_rest, last_block, chained, mac_by, cmac, cmac_tag};
 ghost use Rattle.aes.specs.Vectors.{Vectors};
 ghost use Rattle.aes.specs.Words.{bytes_of};
-ghost use Rattle.std.proofs.Common.{arith};
-ghost use Rattle.std.proofs.lemmas.List.{length-take-le};
-ghost use Rattle.aes.specs.Macs.{length-cmac};
 
 use super::block::{BLOCK_BYTES, Block};
 use super::cipher::{KEYS_BYTES, encrypt, expand, room};
@@ -46,8 +44,8 @@ fn first_subkey(keys: &[u8]) -> Block
 
 // The whole blocks of a text, one after the other.
 fn chain(keys: &[u8], blocks: usize, text: &[u8]) -> Block
-    requires keys_len { length keys.now ≡ 176 }
-    requires blocks_in_bounds { blocks * 16 ≤ length text.now }
+    requires whole_keys { length keys.now ≡ 176 }
+    requires in_text { blocks * 16 ≤ length text.now }
     ensures { bytes_of result ≡ chained (ciphered keys.now) blocks zero_block text.now }
 {
     let mut x = Block::zero();
@@ -59,8 +57,8 @@ fn chain(keys: &[u8], blocks: usize, text: &[u8]) -> Block
 
 // The rest of a text, filled up to a block.
 fn padded(rest: &[u8], spare: &mut [u8]) -> Block
-    requires rest_len_bound { length rest.now < 16 }
-    requires spare_len { length spare.old ≡ 16 }
+    requires short_rest { length rest.now < 16 }
+    requires whole_spare { length spare.old ≡ 16 }
     ensures { bytes_of result ≡ padded_rest rest.now }
 {
     let n = rest.len();
@@ -72,9 +70,9 @@ fn padded(rest: &[u8], spare: &mut [u8]) -> Block
 
 // The last block, under its subkey.
 fn last_block(keys: &[u8], rest: &[u8], spare: &mut [u8]) -> Block
-    requires keys_len { length keys.now ≡ 176 }
-    requires rest_len_bound { length rest.now ≤ 16 }
-    requires spare_len { length spare.old ≡ 16 }
+    requires whole_keys { length keys.now ≡ 176 }
+    requires short_rest { length rest.now ≤ 16 }
+    requires whole_spare { length spare.old ≡ 16 }
     ensures { bytes_of result ≡ last_block (ciphered keys.now) rest.now }
 {
     let subkey = first_subkey(keys);
@@ -87,8 +85,8 @@ fn last_block(keys: &[u8], rest: &[u8], spare: &mut [u8]) -> Block
 
 // The whole code of a text.
 fn mac(keys: &[u8], text: &[u8], spare: &mut [u8]) -> Block
-    requires keys_len { length keys.now ≡ 176 }
-    requires spare_len { length spare.old ≡ 16 }
+    requires whole_keys { length keys.now ≡ 176 }
+    requires whole_spare { length spare.old ≡ 16 }
     ensures { bytes_of result ≡ mac_by (ciphered keys.now) text.now }
 {
     let n = text.len();
@@ -111,8 +109,8 @@ fn mac_within(key: &[u8; KEY_BYTES], text: &[u8], work: &mut [u8]) -> Block
 
 // Writes the first eight bytes of the code to the front of an area.
 fn write_tag(key: &[u8; KEY_BYTES], text: &[u8], out: &mut [u8], work: &mut [u8])
-    requires tag_bytes_in_bounds { tag_bytes ≤ length out.old }
-    requires work_bytes_in_bounds { work_bytes ≤ length work.old }
+    requires wide { tag_bytes ≤ length out.old }
+    requires long { work_bytes ≤ length work.old }
     ensures written { out.new ≡ tag_first (cmac_tag key.now text.now) out.old }
     ensures examples { Vectors }
 {
@@ -151,10 +149,7 @@ pub struct Cmac;
 impl Tagger for Cmac {
     ghost tag_of = { λ _ key text. cmac_tag key text };
 
-    ghost eight = { unfold cmac_tag in
-        λ t key text.
-        let l = length-cmac key text in
-        length-take-le 8 (cmac key text) (omega arith) };
+    ghost eight = { λ _ key text. length-cmac_tag key text };
 
     fn tag(
         &self,
@@ -166,7 +161,7 @@ impl Tagger for Cmac {
         ensures answer { result ≡ tag_answer (length text.now) (length out.old) (length work.old) }
         ensures out { out.new ≡ after result (tag_first (cmac_tag key.now text.now) out.old) out.old }
         ensures clean { work.new ≡ zeros (length work.old) }
-        ensures examples { OnOk result (Vectors) }
+        ensures examples { OnOk result Vectors }
     {
         let guard = Scratch(work);
         admit(text.len(), out.len(), guard.0.len())?;

@@ -108,7 +108,8 @@ fn start(key: &[u8; KEY_BYTES]) -> State
 
 // Takes the first words of a text in.
 fn absorb_words(start: State, words: usize, text: &[u8]) -> State
-    requires { (words * 8 ≤ length text.now) × (words ≤ 16) }
+    requires in_text { words * 8 ≤ length text.now }
+    requires few { words ≤ 16 }
     ensures { result ≡ absorbs words start text.now }
 {
     let mut s = start;
@@ -164,7 +165,8 @@ fn hash(key: &[u8; KEY_BYTES], text: &[u8]) -> u64
 
 // Writes the tag to the first eight bytes.
 fn write_tag(key: &[u8; KEY_BYTES], text: &[u8], out: &mut [u8])
-    requires { (length text.now ≤ 128) × (8 ≤ length out.old) }
+    requires short { length text.now ≤ 128 }
+    requires wide { 8 ≤ length out.old }
     ensures written { out.new ≡ tag_first (sip_tag key.now text.now) out.old }
     ensures example { SipExample }
 {
@@ -191,7 +193,7 @@ impl Tagger for SipHash {
         ensures answer { result ≡ tag_answer (length text.now) (length out.old) (length work.old) }
         ensures out { out.new ≡ after result (tag_first (sip_tag key.now text.now) out.old) out.old }
         ensures clean { work.new ≡ zeros (length work.old) }
-        ensures example { OnOk result (SipExample) }
+        ensures example { OnOk result SipExample }
     {
         let guard = Scratch(work);
         admit(text.len(), out.len(), guard.0.len())?;

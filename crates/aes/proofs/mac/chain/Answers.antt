@@ -1,8 +1,8 @@
-use Rattle.std.proofs.Common.{◌≡◌, ℕ, ◌-◌, ◌*◌, List, drop, sym, ap, ◌∙◌, arith}
+use Rattle.std.proofs.Common.{◌≡◌, ℕ, ◌-◌, ◌*◌, List, drop, ap, ◌∙◌, arith}
 use Rattle.aes.specs.Cipher.{ciphered}
 use Rattle.aes.specs.Mac.{chained}
 use Rattle.aes.specs.Words.{bytes_of}
-use Rattle.aes.specs.Macs.{chained_more}
+use Rattle.aes.proofs.Macs.{chained_more}
 use Rattle.aes.proofs.mac.chain.Goals as goal
 
 pub loop-i-preserved : goal.loop-i-preserved

@@ -1,5 +1,5 @@
 use Rattle.std.proofs.Common.{rules}
-use Rattle.aes.specs.Macs.{doubled_is}
+use Rattle.aes.proofs.Macs.{doubled_is}
 use Rattle.aes.proofs.mac.doubled.Goals as goal
 
 pub returns : goal.returns

@@ -8,6 +8,6 @@ unfolding cmac_tag
 returns c = record {
   written =
       ap (λ (z : List ℕ). z ++ drop 8 c.args.out.now)
-      (c.copy-from-slice.ensures.after ∙ ap (λ (z : List ℕ). take 8 z) (c.bytes-bytes.ensures ∙ c.mac-within.ensures));
+      (c.copy_from_slice.ensures.after ∙ ap (λ (z : List ℕ). take 8 z) (c.bytes-bytes.ensures ∙ c.mac_within.ensures));
   examples = vectors;
 }

@@ -6,19 +6,19 @@ use Rattle.tagging.proofs.sip.number.Goals as goal
 pub loop-i-init : goal.loop-i-init
 loop-i-init c = (sym (low-none c.args.bytes.now (length c.args.bytes.now) (omega arith)), low_start (length c.args.bytes.now))
 
-pub overflow-mul-n : goal.overflow-mul-n
-overflow-mul-n c =
+pub overflow_mul-n : goal.overflow_mul-n
+overflow_mul-n c =
     let small = low-bound c.loop-i.n (length c.args.bytes.now - c.loop-i.i) c.loop-i.invariant.1 (omega arith) in omega arith
 
-pub overflow-add-n : goal.overflow-add-n
-overflow-add-n c =
+pub overflow_add-n : goal.overflow_add-n
+overflow_add-n c =
     let small = low-bound c.loop-i.n (length c.args.bytes.now - c.loop-i.i) c.loop-i.invariant.1 (omega arith) in
-    let byte : get_or c.args.bytes.now (c.loop-i.i - 1) 0 < 256 = omega (arith, c.type-inv.bytes (c.loop-i.i - 1)) in omega arith
+    let byte : get_or c.args.bytes.now (c.loop-i.i - 1) 0 < 256 = omega (arith, c.type_inv.bytes (c.loop-i.i - 1)) in omega arith
 
 pub loop-i-preserved : goal.loop-i-preserved
 loop-i-preserved c = (
   low-back c.args.bytes.now c.loop-i.i c.loop-i.n (omega arith) (omega arith) c.loop-i.invariant.0,
-  low_step c.loop-i.n (get_or c.args.bytes.now (c.loop-i.i - 1) 0) (length c.args.bytes.now) c.loop-i.i c.loop-i.invariant.1 (omega (arith, c.type-inv.bytes (c.loop-i.i - 1))) (omega arith) (omega arith),
+  low_step c.loop-i.n (get_or c.args.bytes.now (c.loop-i.i - 1) 0) (length c.args.bytes.now) c.loop-i.i c.loop-i.invariant.1 (omega (arith, c.type_inv.bytes (c.loop-i.i - 1))) (omega arith) (omega arith),
 )
 
 pub returns : goal.returns

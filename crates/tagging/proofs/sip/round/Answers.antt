@@ -4,4 +4,4 @@ use Rattle.tagging.proofs.sip.round.Goals as goal
 
 pub returns : goal.returns
 unfolding sip_round
-returns c = c.second-half.ensures ∙ ap second_half c.first-half.ensures
+returns c = c.second_half.ensures ∙ ap second_half c.first_half.ensures

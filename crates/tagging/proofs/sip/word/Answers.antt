@@ -5,6 +5,6 @@ use Rattle.tagging.proofs.sip.word.Goals as goal
 
 pub returns : goal.returns
 returns c =
-    c.from-le-bytes.ensures
-    ∙ low_eight c.copy-from-slice.new.self c.copy-from-slice.ensures.len
-    ∙ ap low_first c.copy-from-slice.ensures.after
+    c.from_le_bytes.ensures
+    ∙ low_eight c.copy_from_slice.new.self c.copy_from_slice.ensures.len
+    ∙ ap low_first c.copy_from_slice.ensures.after

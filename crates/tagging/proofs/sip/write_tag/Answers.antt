@@ -14,6 +14,6 @@ unfolding sip_tag
 returns c = record {
   written =
       ap (λ (z : List ℕ). z ++ drop 8 c.args.out.now)
-      (c.copy-from-slice.ensures.after ∙ c.to-le-bytes-bytes.ensures ∙ bytes_of_word c.hash.result ∙ ap word_bytes c.hash.ensures);
+      (c.copy_from_slice.ensures.after ∙ c.to_le_bytes-bytes.ensures ∙ bytes_of_word c.hash.result ∙ ap word_bytes c.hash.ensures);
   example = example-stands;
 }

@@ -1,6 +1,4 @@
-use Rattle.std.proofs.Common.{◌≡◌, sym, refl, ap, ◌∙◌}
-use Rattle.aes.specs.Words.{word_bytes}
-use Rattle.aes.specs.WordsLemmas.{xor_block}
+use Rattle.aes.proofs.Words.{xor_block}
 use Rattle.aes.proofs.block.Block.xor.Goals as goal
 
 pub returns : goal.returns

@@ -1,15 +1,15 @@
 -- The shift of a block, the chain of blocks, and the padding. Assumes nothing.
-use Rattle.std.specs.Prelude.{◌≡◌, ℕ, zero, suc, ◌+◌, ◌-◌, ◌*◌, ◌/◌, ◌%◌, ◌<◌, ◌≤◌, List, [], ◌∷◌, ◌++◌, length, take, drop, set, replicate, bit_xor, slice_set, refl}
-use Rattle.std.proofs.Common.{sym, ap, ◌∙◌, mod-eq_of_lt, arith}
+use Rattle.std.proofs.Common.{◌≡◌, ℕ, suc, ◌+◌, ◌-◌, ◌*◌, ◌/◌, ◌%◌, ◌<◌, List, [], ◌∷◌, ◌++◌, length, take, drop, set, replicate, sym, refl, ap, ◌∙◌, mod-eq_of_lt, arith}
+use Rattle.std.specs.Prelude.{bit_xor, slice_set}
 use Rattle.std.proofs.Math.Nat.{div-div-eq-div-mul}
 use Rattle.std.specs.Int.Bits.{xor_zero_r}
-use Rattle.std.proofs.lemmas.List.{drop-drop, drop-replicate, set_at, take_all}
+use Rattle.std.proofs.lemmas.List.{drop-drop, drop-replicate, set_at}
 use Rattle.std.proofs.lemmas.Nat.{div-add-mod'}
-use Rattle.aes.specs.Cipher.{xored, sub_bytes, shift_rows, one_round, last_round, rounds, ciphered}
+use Rattle.aes.specs.Cipher.{xored, ciphered}
 use Rattle.aes.specs.declared.block.Block.{Block}
-use Rattle.aes.specs.Mac.{shifted, doubled, padded, chained, mac_by, cmac}
+use Rattle.aes.specs.Mac.{doubled, padded, chained}
 use Rattle.aes.specs.Words.{word_bytes, bytes_of}
-use Rattle.aes.specs.WordsLemmas.{xor_word, of_bytes, joined}
+use Rattle.aes.proofs.Words.{xor_word, of_bytes, joined}
 
 -- The bytes of a word shifted by one bit, with a bit that comes in.
 shl : ℕ → ℕ → List ℕ
@@ -122,18 +122,3 @@ padded_is rest ys zs n q h e f =
 
     more : (n : ℕ) → n < 16 → 16 - n ≡ suc (15 - n)
     more n h = omega arith
-
--- A block under round keys has sixteen bytes.
-length-xored : (xs ys : List ℕ) → length (xored xs ys) ≡ length xs
-length-xored [] ys = refl
-length-xored (x ∷ xs) [] = refl
-length-xored (x ∷ xs) (y ∷ ys) = ap suc (length-xored xs ys)
-
-length-rounds : (n : ℕ) (s ks : List ℕ) → length (rounds n s ks) ≡ 16
-unfolding last_round shift_rows
-length-rounds zero s ks = length-xored (shift_rows (sub_bytes s)) (take 16 ks)
-length-rounds (suc n) s ks = length-rounds n (one_round s (take 16 ks)) (drop 16 ks)
-
-pub length-cmac : (key text : List ℕ) → length (cmac key text) ≡ 16
-unfolding ciphered mac_by
-length-cmac key text = length-rounds 9 _ _

@@ -1,5 +1,5 @@
 -- The replies of a script, as they are printed. Assumes nothing.
-use Rattle.std.specs.Prelude.{◌≡◌, ℕ, cond, ltb, List, [], ◌∷◌, ◌++◌, map, length, take, Ok, Err, vec_items, codes, decimal, Result}
+use Rattle.std.specs.Prelude.{◌≡◌, ℕ, List, [], ◌∷◌, ◌++◌, map, length, take, Ok, Err, vec_items, codes, decimal, Result}
 use Rattle.base.specs.declared.Fault.{Fault}
 use Rattle.base.specs.Faults.{number, layer_number}
 use Rattle.memory.specs.declared.RowKind.{RowKind}

@@ -1,4 +1,4 @@
--- Identities are equal exactly where their bytes are. Assumes nothing.
+-- Identities are equal exactly where their bytes are: proofs, which stand here since an `impl` cites only specs/. Assumes nothing.
 use Rattle.std.specs.Prelude.{◌≡◌, ℕ, ◌+◌, ◌*◌, ◌/◌, ◌%◌, ◌^◌, true, List, drop, Decides}
 use Rattle.std.proofs.Math.Bool.{Bool-set}
 use mathlib.Core.HLevel.{is_prop→PathP}

@@ -6,12 +6,14 @@ here=$(cd "$(dirname "$0")" && pwd)
 root=$(dirname "$here")
 out=$root/target/examples
 mkdir -p "$out"
-if ! (cd "$root" && rt staticlib messages) > "$out/staticlib.log" 2>&1; then
+if ! (cd "$root/crates/messages_c" && rt lib) > "$out/staticlib.log" 2>&1; then
     tail -n 20 "$out/staticlib.log" >&2
     echo "examples: the library was not built, see $out/staticlib.log" >&2
     exit 1
 fi
 library=$root/target/staticlib/libmessages.a
+mkdir -p "$(dirname "$library")"
+cp "$root/crates/messages_c/out/libmessages_c.a" "$library"
 "${CC:-cc}" -std=c99 -Wall -Wextra -I "$root/include" "$here/kind.c" "$library" -o "$out/kind-c"
 "${RUSTC:-rustc}" --edition 2021 "$here/kind.rs" -C link-arg="$library" -o "$out/kind-rs"
 status=0

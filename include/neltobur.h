@@ -1,5 +1,5 @@
-/* Neltobur for C: link the static library that `rt staticlib messages` writes,
- * target/staticlib/libmessages.a. */
+/* Neltobur for C: link the static library of the crate messages_c, which
+ * examples/run.sh puts at target/staticlib/libmessages.a. */
 #ifndef NELTOBUR_H
 #define NELTOBUR_H
 

@@ -1,21 +1,16 @@
--- Identities are equal exactly where their bytes are. Assumes nothing.
-use Rattle.std.specs.Prelude.{◌≡◌, ℕ, ◌+◌, ◌*◌, ◌/◌, ◌%◌, ◌^◌, Bool, true, List, [], ◌∷◌, drop, Decides, refl}
+-- Identities are equal exactly where their bytes are: proofs, which stand here since an `impl` cites only specs/. Assumes nothing.
+use Rattle.std.specs.Prelude.{◌≡◌, ℕ, ◌+◌, ◌*◌, ◌/◌, ◌%◌, ◌^◌, true, List, drop, Decides}
 use Rattle.std.proofs.Math.Bool.{Bool-set}
 use mathlib.Core.HLevel.{is_prop→PathP}
 use Rattle.std.proofs.Common.{sym, ap, ◌∙◌, arith}
-use Rattle.std.proofs.lemmas.Slice.Eq.{bytes_eq-Decides, slice_eq-Decides}
-use Rattle.std.proofs.lemmas.Bool.Decides.{Decides-like, same_from_decides, Decides-eqb}
-use Rattle.std.specs.Cmp.Lexicographic.{Matches}
+use Rattle.std.proofs.lemmas.Slice.Eq.{bytes_eq-Decides}
+use Rattle.std.proofs.lemmas.Bool.Decides.{Decides-like}
 use Rattle.std.specs.Int.Digits.{number_from_digits as number_of}
 use Rattle.std.specs.Str.{bytes_eq}
 use Rattle.identity.specs.declared.Chip.{Chip}
 use Rattle.identity.specs.declared.plate.Plate.{Plate}
 use Rattle.identity.specs.Chips.{chip, eight_bytes, chip_bytes}
 use Rattle.identity.specs.Plates.{is_plate}
-
--- What `==` says of two texts, as a test.
-pub tested : (xs ys : List ℕ) (r : Bool) → Matches (λ (a b : ℕ) (t : Bool). Decides t (a ≡ b)) xs ys r → r ≡ bytes_eq xs ys
-tested xs ys r h = same_from_decides r (bytes_eq xs ys) (slice_eq-Decides Decides-eqb xs ys r h) (bytes_eq-Decides xs ys)
 
 -- Where the bytes tell one from another, the test on them decides.
 decided : {X : Type 0} (f : X → List ℕ) (x y : X) → (f x ≡ f y → x ≡ y) → Decides (bytes_eq (f x) (f y)) (x ≡ y)

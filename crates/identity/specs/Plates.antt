@@ -1,5 +1,5 @@
 -- Plates: which texts have one, and its twelve bytes. Assumes nothing.
-use Rattle.std.specs.Prelude.{◌≡◌, ℕ, ◌-◌, ◌<◌, Bool, true, false, cond, not, ◌&&◌, List, [], ◌∷◌, ◌++◌, length, replicate, Ok, Err, Result, ◌==◌, nat_le, nat_lt, slice_index}
+use Rattle.std.specs.Prelude.{◌≡◌, ℕ, ◌-◌, Bool, true, cond, not, ◌&&◌, List, [], ◌∷◌, ◌++◌, length, replicate, Ok, Err, Result, ◌==◌, nat_le, nat_lt, slice_index}
 use Rattle.base.specs.declared.Case.TheVariants.{BadShape}
 use Rattle.base.specs.declared.Fault.{Fault}
 use Rattle.base.specs.declared.Layer.TheVariants.{Common}

@@ -9,7 +9,7 @@ ghost use Rattle.identity.specs.Chips.{chip, chip_bytes};
 ghost use Rattle.identity.specs.Plates.{is_printable, all_printable, fits_plate, is_plate_text, padded, plate_of, plate_bytes, space, PlateLaws};
 ghost use Rattle.identity.specs.Made.{bytes_in};
 ghost use Rattle.identity.specs.Exact.{chip_exact, plate_exact};
-ghost use Rattle.std.proofs.Common.{rules, arith};
+ghost use Rattle.std.proofs.Common.{rules};
 
 use base::{Case, Fault, IDENTITY_BYTES, Layer};
 
@@ -186,7 +186,7 @@ impl Plate {
 impl Identity for Plate {
     ghost id_bytes = { λ p. p.bytes };
 
-    ghost twelve = { first_of (Prim.search rules, Prim.grind (arith, Self.row.coded.inj)) };
+    ghost twelve = { Prim.search rules };
 
     ghost exact = { plate_exact };
 

@@ -36,9 +36,8 @@ fn message_kind(message: &[u8]) -> u32
 }
 
 /// The number of a message's kind, or 100 and the number of the refusal: `Empty`, `NoKind` or
-/// `BadLength`, tried in this order. It is the entry for C; `include/neltobur.h` declares it.
-#[unsafe(no_mangle)]
-pub extern "C" fn neltobur_message_kind(message: &[u8]) -> u32
+/// `BadLength`, tried in this order. It is the entry for C: the crate `messages_c` exports it.
+pub fn neltobur_message_kind(message: &[u8]) -> u32
     ensures answer { result ≡ kind_answer message.now }
     ensures laws { EntryLaws }
 {

@@ -1,4 +1,4 @@
-use Rattle.std.proofs.Common.{◌≡◌, ℕ, ◌/◌, ◌%◌, ◌^◌, List, [], ◌∷◌, sym, refl, ap, mod-eq_of_lt, div-one, arith}
+use Rattle.std.proofs.Common.{◌≡◌, ◌/◌, ◌%◌, refl, mod-eq_of_lt, div-one, arith}
 use Rattle.base.specs.Numbers.{big_endian}
 use Rattle.identity.proofs.numbered.Goals as goal
 

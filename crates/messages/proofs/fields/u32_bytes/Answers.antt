@@ -4,4 +4,4 @@ use Rattle.messages.proofs.fields.u32_bytes.Goals as goal
 
 pub returns : goal.returns
 unfolding big_endian
-returns c = c.to-be-bytes.ensures ∙ rw (div-one c.args.value)
+returns c = c.to_be_bytes.ensures ∙ rw (div-one c.args.value)

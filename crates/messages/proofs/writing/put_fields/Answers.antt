@@ -14,7 +14,7 @@ returns-in-GetStatus c =
 pub returns-in-RespondStatus : goal.returns-in-RespondStatus
 returns-in-RespondStatus c =
     let h = c.in-RespondStatus in
-    let put = c.put-status-in-RespondStatus.ensures in
+    let put = c.put_status-in-RespondStatus.ensures in
     let e = put_status h.version h.identity h.count h.stored h.tag c.args.rest.now put.whole (search rules) in
     record { fields = put.fields ∙ e ∙ sym (ap (λ m. fields_of (meant m)) h.is); whole = rw h.is put.whole }
 

@@ -10,6 +10,6 @@ returns c =
     let length : c.length-length.result ≡ (about (kind_of s)).bytes = cc in
     record {
       answer = search rules;
-      area = c.put-message.ensures.area;
-      back = rw length (reads-back s c.args.area.now c.put-message.new.area c.put-message.ensures.whole c.put-message.ensures.area);
+      area = c.put_message.ensures.area;
+      back = rw length (reads-back s c.args.area.now c.put_message.new.area c.put_message.ensures.whole c.put_message.ensures.area);
     }

@@ -1,8 +1,7 @@
 -- One row's kind more. Assumes nothing.
-use Rattle.std.proofs.Common.{◌≡◌, ℕ, ◌+◌, ◌<◌, ◌≤◌, true, List, [], ◌∷◌, ◌++◌, map, length, get_or, take, Some, None, Option, sym, refl, ap, ◌∙◌}
+use Rattle.std.proofs.Common.{◌≡◌, ℕ, ◌+◌, ◌<◌, List, [], ◌∷◌, ◌++◌, map, length, get_or, take, Some, ap, ◌∙◌}
 use Rattle.std.proofs.lemmas.List.{take_more, map-append}
 use Rattle.std.proofs.lemmas.Bool.{lt-ltb, cond-true}
-use Rattle.memory.specs.declared.RowKind.{RowKind}
 use Rattle.memory.specs.Model.{Row, blank, Held, at, kind_of, probing}
 
 pub probed : (h : Held) (i : ℕ) → i < length h.rows → probing h i ≡ Some (kind_of (at h i))

@@ -1,5 +1,5 @@
 -- What stands on the bench, and what a script makes of it. Assumes nothing.
-use Rattle.std.specs.Prelude.{◌≡◌, ℕ, ◌+◌, Bool, cond, not, ◌&&◌, List, length, Some, None, Option, ◌==◌, nat_le, nat_lt}
+use Rattle.std.specs.Prelude.{ℕ, ◌+◌, Bool, cond, not, ◌&&◌, length, Some, None, Option, ◌==◌, nat_le, nat_lt}
 use Rattle.base.specs.declared.Case.TheVariants.{BadShape}
 use Rattle.base.specs.declared.Layer.TheVariants.{Memory}
 use Rattle.base.specs.Faults.{fault}

@@ -1,4 +1,4 @@
-use Rattle.std.proofs.Common.{◌≡◌, ℕ, false, cond, eqb, List, ◌++◌, length, is_ok, vec_items, sym, ap, ◌∙◌, rules}
+use Rattle.std.proofs.Common.{◌≡◌, ℕ, false, cond, eqb, List, ◌++◌, length, is_ok, vec_items, ap, ◌∙◌, rules}
 use Rattle.rig.specs.Store.{desk_of}
 use Rattle.rig.specs.Transcript.{line_done}
 use Rattle.rig.proofs.Lines.{anyway, if_printed, text_of_line, line_desk}

@@ -1,4 +1,4 @@
-use Rattle.std.proofs.Common.{◌≡◌, ◌<◌, ◌≤◌, List, [], ◌∷◌, ◌++◌, map, length, take, sym, refl, ap, ◌∙◌, arith, take_all, rules}
+use Rattle.std.proofs.Common.{◌<◌, ◌≤◌, map, length, ap, ◌∙◌, arith, take_all, rules}
 use Rattle.memory.specs.Model.{kind_of}
 use Rattle.rig.proofs.Probes.{probed, kinds-more}
 use Rattle.rig.proofs.work.row_kinds.Goals as goal

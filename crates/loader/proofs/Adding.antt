@@ -2,7 +2,7 @@
 use Rattle.std.proofs.Common.{◌≡◌, ℕ, ◌+◌, ◌-◌, ◌*◌, ◌<◌, cond, ltb, List, [], ◌∷◌, ◌++◌, sym, refl, ap, ◌∙◌, add_comm, arith}
 use Rattle.std.proofs.lemmas.Bool.{cond_both, ltb-true, ltb-false}
 use Rattle.std.proofs.lemmas.Bool.Decides.{nat_tests}
-use Rattle.std.specs.List.{AllByRecursion as All}
+use Rattle.std.specs.List.{AllByRecursion}
 use Rattle.memory.specs.Model.{Row, shown_of}
 use Rattle.loader.specs.Image.{add16, sum_bytes, sum_rows}
 use Rattle.loader.specs.Laws.{OfBytes, bytes_total, total, SumLaws}
@@ -23,20 +23,20 @@ add_swaps a v w la lv lw = add-associates a v w la lv lw ∙ ap (add16 a) (add_c
 word_below : (x y : ℕ) → x < 256 → y < 256 → x * 256 + y < 65536
 word_below x y lx ly = omega arith
 
-pub bytes_below : (a : ℕ) (bs : List ℕ) → a < 65536 → All (λ b. b < 256) bs → sum_bytes a bs < 65536
+pub bytes_below : (a : ℕ) (bs : List ℕ) → a < 65536 → AllByRecursion (λ b. b < 256) bs → sum_bytes a bs < 65536
 bytes_below a [] la t = la
 bytes_below a (x ∷ []) la t = la
 bytes_below a (x ∷ y ∷ bs) la t = bytes_below (add16 a (x * 256 + y)) bs (add-below a (x * 256 + y) la (word_below x y t.0 t.1.0)) t.1.1
 
 -- A word may go before a row.
-word_first : (a w : ℕ) (bs : List ℕ) → a < 65536 → w < 65536 → All (λ b. b < 256) bs → add16 (sum_bytes a bs) w ≡ sum_bytes (add16 a w) bs
+word_first : (a w : ℕ) (bs : List ℕ) → a < 65536 → w < 65536 → AllByRecursion (λ b. b < 256) bs → add16 (sum_bytes a bs) w ≡ sum_bytes (add16 a w) bs
 word_first a w [] la lw t = refl
 word_first a w (x ∷ []) la lw t = refl
 word_first a w (x ∷ y ∷ bs) la lw t =
     let v : x * 256 + y < 65536 = word_below x y t.0 t.1.0 in
     word_first (add16 a (x * 256 + y)) w bs (add-below a (x * 256 + y) la v) lw t.1.1 ∙ ap (λ n. sum_bytes n bs) (add_swaps a (x * 256 + y) w la v lw)
 
-rows_swap : (a : ℕ) (xs ys : List ℕ) → a < 65536 → All (λ b. b < 256) xs → All (λ b. b < 256) ys → sum_bytes (sum_bytes a xs) ys ≡ sum_bytes (sum_bytes a ys) xs
+rows_swap : (a : ℕ) (xs ys : List ℕ) → a < 65536 → AllByRecursion (λ b. b < 256) xs → AllByRecursion (λ b. b < 256) ys → sum_bytes (sum_bytes a xs) ys ≡ sum_bytes (sum_bytes a ys) xs
 rows_swap a xs [] la s t = refl
 rows_swap a xs (x ∷ []) la s t = refl
 rows_swap a xs (x ∷ y ∷ ys) la s t =
@@ -47,7 +47,7 @@ pub rows_go_on : (a : ℕ) (xs ys : List Row) → sum_rows a (xs ++ ys) ≡ sum_
 rows_go_on a [] ys = refl
 rows_go_on a (x ∷ xs) ys = rows_go_on (sum_bytes a (shown_of x)) xs ys
 
-pub rows-below : (a : ℕ) (rs : List Row) → a < 65536 → All OfBytes rs → sum_rows a rs < 65536
+pub rows-below : (a : ℕ) (rs : List Row) → a < 65536 → AllByRecursion OfBytes rs → sum_rows a rs < 65536
 rows-below a [] la t = la
 rows-below a (r ∷ rs) la t = rows-below (sum_bytes a (shown_of r)) rs (bytes_below a (shown_of r) la t.0) t.1
 
@@ -92,7 +92,7 @@ rows_none a (r ∷ rs) z =
 full-total : (rs : List Row) → sum_rows 0 rs ≡ 65535 → (k : ℕ) × (total rs ≡ 65535 * (k + 1))
 full-total rs e = let c = rows_carry 0 rs in (c.0, omega arith)
 
-total-full : (rs : List Row) (k : ℕ) → All OfBytes rs → total rs ≡ 65535 * (k + 1) → sum_rows 0 rs ≡ 65535
+total-full : (rs : List Row) (k : ℕ) → AllByRecursion OfBytes rs → total rs ≡ 65535 * (k + 1) → sum_rows 0 rs ≡ 65535
 total-full rs k t e =
     let c = rows_carry 0 rs in
     let b = rows-below 0 rs (omega arith) t in

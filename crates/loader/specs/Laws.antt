@@ -1,12 +1,12 @@
 -- What the sum keeps, and what the loader's choice means, for every row and every memory. Assumes nothing.
 use Rattle.std.specs.Prelude.{◌≡◌, ℕ, ◌+◌, ◌*◌, ◌<◌, ◌≤◌, ◌≢◌, ◌⊎◌, List, [], ◌∷◌, ◌++◌, length, Some, None, Ok, Decides, slice_index_or}
-use Rattle.std.specs.List.{AllByRecursion as All}
+use Rattle.std.specs.List.{AllByRecursion}
 use Rattle.memory.specs.Model.{Row, written, blank, Held, shown_of}
 use Rattle.loader.specs.Image.{add16, sum_rows, version, whole, rows_of_slot, Standing, standing, loading}
 
 -- A row that holds bytes.
 abbrev pub OfBytes : Row → Type 0
-OfBytes r = All (λ b. b < 256) (shown_of r)
+OfBytes r = AllByRecursion (λ b. b < 256) (shown_of r)
 
 -- The plain total of the words of some bytes and of some rows, with nothing carried.
 abbrev pub bytes_total : List ℕ → ℕ
@@ -27,12 +27,12 @@ pub record SumLaws : Type 0 where
   -- two rows may change places
   pub any_order : (a : ℕ) (x y : Row) (rs : List Row) → a < 65536 → OfBytes x → OfBytes y → sum_rows a (x ∷ y ∷ rs) ≡ sum_rows a (y ∷ x ∷ rs)
   -- it stays a word
-  pub fits : (a : ℕ) (rs : List Row) → a < 65536 → All OfBytes rs → sum_rows a rs < 65536
+  pub fits : (a : ℕ) (rs : List Row) → a < 65536 → AllByRecursion OfBytes rs → sum_rows a rs < 65536
   -- it differs from the plain total by whole carries
   pub carries : (a : ℕ) (rs : List Row) → (k : ℕ) × (sum_rows a rs + 65535 * k ≡ a + total rs)
   -- from 0 it comes to 65,535 just where the plain total is a multiple of 65,535 other than 0
   pub full : (rs : List Row) → sum_rows 0 rs ≡ 65535 → (k : ℕ) × (total rs ≡ 65535 * (k + 1))
-  pub full_from : (rs : List Row) (k : ℕ) → All OfBytes rs → total rs ≡ 65535 * (k + 1) → sum_rows 0 rs ≡ 65535
+  pub full_from : (rs : List Row) (k : ℕ) → AllByRecursion OfBytes rs → total rs ≡ 65535 * (k + 1) → sum_rows 0 rs ≡ 65535
 
 -- An image that is whole, row by row.
 pub record WholeImage (rs : List Row) : Type 0 where

@@ -9,8 +9,8 @@ set -eu
 here=$(cd "$(dirname "$0")" && pwd)
 library=${1:-}
 if [ -z "$library" ]; then
-    (cd "$here/.." && rt staticlib taglib)
-    library=$here/../target/staticlib/libtaglib.a
+    (cd "$here/../crates/taglib" && rt lib)
+    library=$here/../crates/taglib/out/libtaglib.a
 fi
 made=$(mktemp -d)
 trap 'rm -rf "$made"' EXIT

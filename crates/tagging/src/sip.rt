@@ -1,6 +1,5 @@
 // SipHash-2-4.
-ghost use Rattle.std.specs.Prelude.{◌≡◌, ℕ, ◌+◌, ◌-◌, ◌*◌, ◌/◌, ◌%◌, ◌^◌, ◌<◌, ◌≤◌, ◌++◌, length, OnOk};
-ghost use Rattle.std.proofs.Math.Path.{refl};
+ghost use Rattle.std.specs.Prelude.{◌≡◌, ℕ, ◌+◌, ◌-◌, ◌*◌, ◌/◌, ◌%◌, ◌^◌, ◌<◌, ◌≤◌, ◌++◌, length, refl, OnOk};
 ghost use Rattle.base.specs.Work.{zeros, after};
 ghost use Rattle.tagging.specs.Examples.{SipExample};
 ghost use Rattle.tagging.specs.Sip.{first_half, second_half, sip_round, started, absorbed, absorbs, finished, rest_of, filling, sip_hash, sip_tag};

@@ -24,11 +24,13 @@ fn holding(all: &[bool]) -> u32 {
 }
 
 // Whether a block becomes another under a key.
-fn becomes(key: &[u8; 16], block: &[u8; 16], res: &[u8; 16]) -> bool {
+fn becomes(key: &[u8; 16], block: &[u8; 16], wanted: &[u8; 16]) -> bool {
     let mut work = [255; WORK_BYTES];
     let mut ours = *block;
     match encrypt_block(key, &mut ours, &mut work) {
-        Ok(()) => ours == *res && separate::encrypt(key, block) == *res && work == [0; WORK_BYTES],
+        Ok(()) => ours == *wanted
+            && separate::encrypt(key, block) == *wanted
+            && work == [0; WORK_BYTES],
         Err(_) => false,
     }
 }

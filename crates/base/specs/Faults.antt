@@ -1,5 +1,5 @@
 -- The faults: the number of each case and of each layer, said here and nowhere else. Assumes nothing.
-use Rattle.std.specs.Prelude.{ℕ}
+use Rattle.std.specs.Prelude.{ℕ, Option, Some, None}
 use Rattle.base.specs.declared.Case.{Case}
 use Rattle.base.specs.declared.Case.TheVariants.{Empty, NoKind, WrongEnd, BadLength, ShortArea, BadShape, NoRow, TooLong, PowerOff, PowerCut, NoImage, OutOfTurn, BadTag, CountFull, NotOurs, Aborted, NotListed}
 use Rattle.base.specs.declared.Layer.{Layer}
@@ -33,16 +33,20 @@ layer_number Loader = 2
 layer_number Terminal = 3
 layer_number Server = 4
 
--- The row of a fault that is about no row.
+-- A fault at a row, and one that is about no row.
+abbrev pub fault_at : Case → Layer → ℕ → Fault
+fault_at c l i = record { case = c; layer = l; row = Some i }
+
+abbrev pub fault : Case → Layer → Fault
+fault c l = record { case = c; layer = l; row = None }
+
+-- The row that a user is told where a fault is about no row.
 abbrev pub nowhere : ℕ
 nowhere = 65535
 
--- A fault at a row, and one that is about no row.
-abbrev pub fault_at : Case → Layer → ℕ → Fault
-fault_at c l i = record { case = c; layer = l; row = i }
-
-abbrev pub fault : Case → Layer → Fault
-fault c l = fault_at c l nowhere
+abbrev pub row_number : Option ℕ → ℕ
+row_number (Some i) = i
+row_number None = nowhere
 
 -- What a fault tells a user: three numbers.
 pub record Told : Type 0 where
@@ -51,4 +55,4 @@ pub record Told : Type 0 where
   pub row : ℕ
 
 abbrev pub told : Fault → Told
-told f = record { number = number f.case; layer = layer_number f.layer; row = f.row }
+told f = record { number = number f.case; layer = layer_number f.layer; row = row_number f.row }

@@ -1,18 +1,15 @@
 // What every crate above shares: faults, numbers in bytes, the working area.
 #![tactic(auto)]
 
-ghost use Rattle.std.specs.Prelude.{◌≡◌, ◌==◌, Decides};
-ghost use Rattle.base.specs.Faults.{number as number_of, layer_number, fault_at, fault};
+ghost use Rattle.std.specs.Prelude.{◌≡◌};
+ghost use Rattle.base.specs.Faults.{number as number_of, layer_number, fault_at, fault, row_number};
 ghost use Rattle.base.specs.Numbers.{leading};
-ghost use Rattle.std.specs.Cmp.Rules.{comparing};
-ghost use Rattle.std.proofs.Common.{rules};
-ghost use Rattle.std.specs.Cmp as Keys;
 
 mod scratch;
 
 pub use scratch::{Scratch, WORK_BYTES, clear};
 
-/// The row of a fault that is about no row.
+/// The row that a user is told where a fault is about no row.
 pub const NOWHERE: u16 = 65535;
 
 /// The bytes of a row.
@@ -28,7 +25,7 @@ pub const TAG_BYTES: usize = 8;
 pub const IDENTITY_BYTES: usize = 12;
 
 /// Why a call was refused. Faults of the input come first, then faults of the state.
-#[derive(Clone, Copy, Debug)]
+#[derive(Clone, Copy, Debug, PartialEq, Eq)]
 pub enum Case {
     Empty = 1,
     NoKind = 2,
@@ -52,66 +49,39 @@ pub enum Case {
 /// Where a call was refused. `Common` are taggers, identities and messages.
 #[derive(Clone, Copy, PartialEq, Eq, Debug)]
 pub enum Layer {
-    Common,
-    Memory,
-    Loader,
-    Terminal,
-    Server,
+    Common = 0,
+    Memory = 1,
+    Loader = 2,
+    Terminal = 3,
+    Server = 4,
 }
 
-/// A refusal: why, where, and the row whose reading, writing or blanking was refused.
+/// A refusal: why, where, and the row whose reading, writing or blanking was refused, if it is about one.
 #[derive(Clone, Copy, PartialEq, Eq, Debug)]
 pub struct Fault {
     pub case: Case,
     pub layer: Layer,
-    pub row: u16,
+    pub row: Option<u16>,
 }
 
-impl Case {
-    /// The number that a user is told.
-    pub fn number(self) -> u8
-        ensures { result ≡ number_of self }
+/// The number that a user is told. No two cases have one number.
+impl From<Case> for u8 {
+    ghost from_gives = { λ case n. n ≡ number_of case };
+
+    fn from(case: Case) -> u8
+        ensures number { result ≡ number_of case }
+        ensures own { (other : Case) → result ≡ number_of other → case ≡ other }
     {
-        self as u8
+        case as u8
     }
 }
 
-// Whether two cases are one: no two have one number.
-fn same_case(a: Case, b: Case) -> bool
-    ensures { Decides result (a ≡ b) }
-{
-    a.number() == b.number()
-}
+/// The number that a user is told.
+impl From<Layer> for u8 {
+    ghost from_gives = { λ layer n. n ≡ layer_number layer };
 
-impl PartialEq for Case {
-    ghost eq = { λ a b. number_of a == number_of b };
-
-    ghost laws = { Keys.partial_equiv_from_equiv (Prim.search (comparing, rules)) };
-
-    fn eq(&self, other: &Case) -> bool
-        ensures is { result ≡ (number_of self.now == number_of other.now) }
-        ensures decides { Decides result (self.now ≡ other.now) }
-    {
-        same_case(*self, *other)
-    }
-}
-
-impl Eq for Case {
-    ghost laws = { Prim.search (comparing, rules) };
-}
-
-impl Layer {
-    /// The number that a user is told.
-    pub fn number(self) -> u8
-        ensures { result ≡ layer_number self }
-    {
-        match self {
-            Layer::Common => 0,
-            Layer::Memory => 1,
-            Layer::Loader => 2,
-            Layer::Terminal => 3,
-            Layer::Server => 4,
-        }
+    fn from(layer: Layer) -> u8 {
+        layer as u8
     }
 }
 
@@ -120,14 +90,29 @@ impl Fault {
     pub fn new(case: Case, layer: Layer) -> Fault
         ensures { result ≡ fault case layer }
     {
-        Fault::at(case, layer, NOWHERE)
+        Fault {
+            case,
+            layer,
+            row: None,
+        }
     }
 
     /// A fault about a row.
     pub fn at(case: Case, layer: Layer, row: u16) -> Fault
         ensures { result ≡ fault_at case layer row }
     {
-        Fault { case, layer, row }
+        Fault {
+            case,
+            layer,
+            row: Some(row),
+        }
+    }
+
+    /// The row that a user is told: `NOWHERE` where the fault is about none.
+    pub fn row_number(self) -> u16
+        ensures { result ≡ row_number self.row }
+    {
+        self.row.unwrap_or(NOWHERE)
     }
 }
 
@@ -135,7 +120,6 @@ impl Fault {
 pub fn leading_number(row: &[u8; ROW_BYTES]) -> u64
     ensures { result ≡ leading 8 row.now }
 {
-    u64::from_be_bytes([
-        row[0], row[1], row[2], row[3], row[4], row[5], row[6], row[7],
-    ])
+    let [a, b, c, d, e, f, g, h, ..] = *row;
+    u64::from_be_bytes([a, b, c, d, e, f, g, h])
 }

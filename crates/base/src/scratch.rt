@@ -5,20 +5,11 @@ ghost use Rattle.base.specs.Work.{zeros};
 /// The working bytes that a call needs.
 pub const WORK_BYTES: usize = 192;
 
-// Writes a zero over each byte.
-fn wipe(area: &mut [u8])
-    ensures { area.new ≡ zeros (length area.old) }
-{
-    for byte in area.iter_mut() {
-        *byte = 0;
-    }
-}
-
 /// Sets every byte to zero.
 pub fn clear(area: &mut [u8])
     ensures { area.new ≡ zeros (length area.old) }
 {
-    wipe(area);
+    area.fill(0);
 }
 
 /// A guard over borrowed working bytes: where it ends, whatever the way out, they are all zero.

@@ -1,16 +1,17 @@
 -- A window shows what is put into its rows, and leaves all others. Assumes nothing.
-use Rattle.std.proofs.Common.{◌≡◌, ℕ, ◌+◌, ◌-◌, ◌<◌, ◌≤◌, min, List, length, get_or, take, drop, set, Err, Result, sym, refl, ap, ◌∙◌, subst, ⊎_elim, arith, length-drop, length-take, get_or-drop, get_or-take}
+use Rattle.std.proofs.Common.{◌≡◌, ℕ, ◌+◌, ◌-◌, ◌<◌, ◌≤◌, min, List, length, get_or, take, drop, set, Ok, Err, Result, sym, refl, ap, ◌∙◌, subst, ⊎_elim, arith, length-drop, length-take, get_or-drop, get_or-take}
 use lib.Seq.{take-set-lt, drop-set-add}
 use Rattle.std.proofs.lemmas.Bool.Decides.{nat_tests}
 use Rattle.base.specs.declared.Case.TheVariants.{NoRow}
 use Rattle.base.specs.declared.Layer.TheVariants.{Memory}
 use Rattle.base.specs.declared.Fault.{Fault}
-use Rattle.base.specs.Faults.{nowhere, fault_at}
+use Rattle.base.specs.Faults.{fault_at}
+use Rattle.memory.specs.declared.RowKind.{RowKind}
 use Rattle.memory.specs.declared.window.Window.{Window}
 use Rattle.memory.specs.Model.{Row, blank, Held, Mem, Outcome, at, torn, reading, probing, putting, raising, powering_up}
 use Rattle.memory.specs.Laws.{PutLaws, RaiseLaws, SupplyLaws}
-use Rattle.memory.specs.View.{view_of, Did}
-use Rattle.memory.specs.Shown.{shown_held, shown_mem, renumber, Untouched}
+use Rattle.memory.specs.View.{view_of, Bounded}
+use Rattle.memory.specs.Shown.{shown_held, shown_mem, renumber, Placed, Untouched}
 use Rattle.memory.proofs.Laws.{put_laws, raise-laws, up_laws}
 
 pub shown-length : (f n : ℕ) (h : Held) → length (shown_held f n h).rows ≡ min n (length h.rows - f)
@@ -29,24 +30,24 @@ module _ (f n : ℕ) (h : Held) (i : ℕ) (within : i < length (shown_held f n h
   shown-set : (x : Row) → take n (drop f (set h.rows (f + i) x)) ≡ set (take n (drop f h.rows)) i x
   shown-set x = let b = in_window in rw (drop-set-add, take-set-lt)
 
-  pub shown_probe : probing h (f + i) ≡ probing (shown_held f n h) i
+  shown_probe : probing h (f + i) ≡ probing (shown_held f n h) i
   shown_probe = let k = in_memory in let a = shown-at in grind (arith, nat_tests)
 
-  module _ (fits : f + i < nowhere) (area : List ℕ) where
-    pub shown-answer : renumber i (reading h (f + i) area).0 ≡ (reading (shown_held f n h) i area).0
+  module _ (area : List ℕ) where
+    shown-answer : renumber i (reading h (f + i) area).0 ≡ (reading (shown_held f n h) i area).0
     unfolding reading
     shown-answer = let k = in_memory in let a = shown-at in grind (arith, nat_tests)
 
-    pub shown_area : (reading h (f + i) area).1 ≡ (reading (shown_held f n h) i area).1
+    shown_area : (reading h (f + i) area).1 ≡ (reading (shown_held f n h) i area).1
     unfolding reading
     shown_area = let k = in_memory in let a = shown-at in grind (arith, nat_tests)
 
 module _ (f n : ℕ) (m : Mem) (i : ℕ) (within : i < length (shown_held f n m.held).rows) (x : Row) where
-  pub put_answer : f + i < nowhere → renumber i (putting m (f + i) x).0 ≡ (putting (shown_mem f n m) i x).0
+  put_answer : renumber i (putting m (f + i) x).0 ≡ (putting (shown_mem f n m) i x).0
   unfolding putting
-  put_answer fits = let k = in_memory f n m.held i within in grind (arith, nat_tests)
+  put_answer = let k = in_memory f n m.held i within in grind (arith, nat_tests)
 
-  pub put_after : shown_mem f n (putting m (f + i) x).1 ≡ (putting (shown_mem f n m) i x).1
+  put_after : shown_mem f n (putting m (f + i) x).1 ≡ (putting (shown_mem f n m) i x).1
   unfolding putting
   put_after =
       let k = in_memory f n m.held i within in
@@ -55,14 +56,14 @@ module _ (f n : ℕ) (m : Mem) (i : ℕ) (within : i < length (shown_held f n m.
       let t = shown-set f n m.held i within (torn m.tear (at m.held (f + i)) x) in
       grind (arith, nat_tests)
 
-  pub put_untouched : Untouched f n m.held (putting m (f + i) x).1.held
+  put_untouched : Untouched f n m.held (putting m (f + i) x).1.held
   put_untouched =
       let p = put_laws m (f + i) x in
       let b = in_window f n m.held i within in
       record { size = p.size; outside = λ j out. p.others j (⊎_elim (λ l. omega arith) (λ l. omega arith) out) }
 
 -- Rows that are as they were leave all outside the window untouched.
-pub same-untouched : (f n : ℕ) (before after : Held) → after.rows ≡ before.rows → Untouched f n before after
+same-untouched : (f n : ℕ) (before after : Held) → after.rows ≡ before.rows → Untouched f n before after
 same-untouched f n before after e = record { size = ap length e; outside = λ j out. ap (λ rs. get_or rs j blank) e }
 
 module _ (f n : ℕ) (m : Mem) where
@@ -82,9 +83,36 @@ module _ (f n : ℕ) (m : Mem) where
   unfolding powering_up
   up_after charge tear = grind (arith, nat_tests)
 
-put_beyond : (m : Mem) (i : ℕ) (x : Row) → length m.held.rows ≤ i → (Err (fault_at NoRow Memory i) ≡ (putting m i x).0) × (m ≡ (putting m i x).1)
+put_missing : (m : Mem) (i : ℕ) (x : Row) → length m.held.rows ≤ i → (Err (fault_at NoRow Memory i) ≡ (putting m i x).0) × (m ≡ (putting m i x).1)
 unfolding putting
-put_beyond m i x beyond = (grind (arith, nat_tests), grind (arith, nat_tests))
+put_missing m i x beyond = (grind (arith, nat_tests), grind (arith, nat_tests))
+
+-- Reading through a window, where it shows the row and where not.
+module _ (f n : ℕ) (h : Held) (i : ℕ) where
+  pub read_shown-answer : (k : ℕ) (area : List ℕ) (r r' : Result RowKind Fault) → k ≡ f + i → i < length (shown_held f n h).rows → r ≡ (reading h k area).0 → r' ≡ renumber i r → r' ≡ (reading (shown_held f n h) i area).0
+  read_shown-answer k area r r' e within answer same = let a = shown-answer f n h i within area in cc
+
+  pub read_shown-area : (k : ℕ) (area after : List ℕ) → k ≡ f + i → i < length (shown_held f n h).rows → after ≡ (reading h k area).1 → after ≡ (reading (shown_held f n h) i area).1
+  read_shown-area k area after e within left = let a = shown_area f n h i within area in cc
+
+  pub read_beyond-answer : (area : List ℕ) (e : Fault) → e ≡ fault_at NoRow Memory i → length (shown_held f n h).rows ≤ i → Err e ≡ (reading (shown_held f n h) i area).0
+  unfolding reading
+  read_beyond-answer area e is beyond = grind (arith, nat_tests)
+
+  pub read_beyond-area : (area : List ℕ) → length (shown_held f n h).rows ≤ i → area ≡ (reading (shown_held f n h) i area).1
+  unfolding reading
+  read_beyond-area area beyond = grind (arith, nat_tests)
+
+pub probe-shown : (f n : ℕ) (h : Held) (i k : ℕ) → Placed f n h i (Ok k) → probing h k ≡ probing (shown_held f n h) i
+probe-shown f n h i k placed = ap (probing h) placed.0 ∙ shown_probe f n h i placed.1
+
+-- A call through a window: r is the answer and the window shows the memory of the outcome o, only its own rows
+-- changed, and the laws L of such a call hold.
+pub record Did {M : Type 0} (meaning : M → Mem) (before after : Window M) (r : Result (Unit {0}) Fault) (o : Outcome) (L : Outcome → Type 0) : Type 0 where
+  pub answer : r ≡ o.0
+  pub shown : view_of meaning after ≡ o.1
+  pub bounded : Bounded meaning before after
+  pub laws : L (r, view_of meaning after)
 
 module _ {M : Type 0} (meaning : M → Mem) (w : Window M) where
   abbrev moved : M → Window M
@@ -103,20 +131,33 @@ module _ {M : Type 0} (meaning : M → Mem) (w : Window M) where
       }
 
   module _ (n : M) (r : Result (Unit {0}) Fault) where
-    pub did_put : (i k : ℕ) (x : Row) → k ≡ w.first + i → i < length view.held.rows → k < nowhere → r ≡ renumber i (putting (meaning w.inner) k x).0 → meaning n ≡ (putting (meaning w.inner) k x).1 → Did meaning w (moved n) r (putting view i x) (PutLaws view i x)
-    did_put i k x e within fits answer after =
+    -- A row that the window shows.
+    put_shown : (h : Held) (i k : ℕ) (x : Row) (s : Result (Unit {0}) Fault) → h ≡ (meaning w.inner).held → k ≡ w.first + i → i < length (shown_held w.first w.count h).rows → s ≡ (putting (meaning w.inner) k x).0 → r ≡ renumber i s → meaning n ≡ (putting (meaning w.inner) k x).1 → Did meaning w (moved n) r (putting view i x) (PutLaws view i x)
+    put_shown h i k x s agrees placed shows answered same after =
         let m = meaning w.inner in
         let f = w.first in
-        let after' : meaning n ≡ (putting m (f + i) x).1 = after ∙ ap (λ j. (putting m j x).1) e in
-        let low : f + i < nowhere = omega arith in
+        let within : i < length view.held.rows = rw agrees at shows in
+        let after' : meaning n ≡ (putting m (f + i) x).1 = after ∙ ap (λ j. (putting m j x).1) placed in
         did n r (putting view i x) (PutLaws view i x)
-        (answer ∙ ap (λ j. renumber i (putting m j x).0) e ∙ put_answer f w.count m i within x low)
+        (same ∙ ap (renumber i) (answered ∙ ap (λ j. (putting m j x).0) placed) ∙ put_answer f w.count m i within x)
         (ap (shown_mem f w.count) after' ∙ put_after f w.count m i within x)
         (subst (λ (q : Mem). Untouched f w.count m.held q.held) (sym after') (put_untouched f w.count m i within x))
         (put_laws view i x)
 
-    pub did-raise : r ≡ (raising (meaning w.inner)).0 → meaning n ≡ (raising (meaning w.inner)).1 → Did meaning w (moved n) r (raising view) (RaiseLaws view)
-    did-raise answer after =
+    pub put_shown-answer : (h : Held) (i k : ℕ) (x : Row) (s : Result (Unit {0}) Fault) → h ≡ (meaning w.inner).held → k ≡ w.first + i → i < length (shown_held w.first w.count h).rows → s ≡ (putting (meaning w.inner) k x).0 → r ≡ renumber i s → meaning n ≡ (putting (meaning w.inner) k x).1 → r ≡ (putting view i x).0
+    put_shown-answer h i k x s agrees placed shows answered same after = (put_shown h i k x s agrees placed shows answered same after).answer
+
+    pub put_shown-after : (h : Held) (i k : ℕ) (x : Row) (s : Result (Unit {0}) Fault) → h ≡ (meaning w.inner).held → k ≡ w.first + i → i < length (shown_held w.first w.count h).rows → s ≡ (putting (meaning w.inner) k x).0 → r ≡ renumber i s → meaning n ≡ (putting (meaning w.inner) k x).1 → view_of meaning (moved n) ≡ (putting view i x).1
+    put_shown-after h i k x s agrees placed shows answered same after = (put_shown h i k x s agrees placed shows answered same after).shown
+
+    pub put_shown-bounded : (h : Held) (i k : ℕ) (x : Row) (s : Result (Unit {0}) Fault) → h ≡ (meaning w.inner).held → k ≡ w.first + i → i < length (shown_held w.first w.count h).rows → s ≡ (putting (meaning w.inner) k x).0 → r ≡ renumber i s → meaning n ≡ (putting (meaning w.inner) k x).1 → Bounded meaning w (moved n)
+    put_shown-bounded h i k x s agrees placed shows answered same after = (put_shown h i k x s agrees placed shows answered same after).bounded
+
+    pub put_shown-laws : (h : Held) (i k : ℕ) (x : Row) (s : Result (Unit {0}) Fault) → h ≡ (meaning w.inner).held → k ≡ w.first + i → i < length (shown_held w.first w.count h).rows → s ≡ (putting (meaning w.inner) k x).0 → r ≡ renumber i s → meaning n ≡ (putting (meaning w.inner) k x).1 → PutLaws view i x (r, view_of meaning (moved n))
+    put_shown-laws h i k x s agrees placed shows answered same after = (put_shown h i k x s agrees placed shows answered same after).laws
+
+    raise_shown : r ≡ (raising (meaning w.inner)).0 → meaning n ≡ (raising (meaning w.inner)).1 → Did meaning w (moved n) r (raising view) (RaiseLaws view)
+    raise_shown answer after =
         let m = meaning w.inner in
         did n r (raising view) (RaiseLaws view)
         (answer ∙ raise-answer w.first w.count m)
@@ -124,8 +165,20 @@ module _ {M : Type 0} (meaning : M → Mem) (w : Window M) where
         (same-untouched w.first w.count m.held (meaning n).held (ap (λ (q : Mem). q.held.rows) after ∙ (raise-laws m).rows))
         (raise-laws view)
 
-    pub did_up : (charge tear : ℕ) → r ≡ (powering_up (meaning w.inner) charge tear).0 → meaning n ≡ (powering_up (meaning w.inner) charge tear).1 → Did meaning w (moved n) r (powering_up view charge tear) (SupplyLaws view)
-    did_up charge tear answer after =
+    pub raise_shown-answer : r ≡ (raising (meaning w.inner)).0 → meaning n ≡ (raising (meaning w.inner)).1 → r ≡ (raising view).0
+    raise_shown-answer answer after = (raise_shown answer after).answer
+
+    pub raise_shown-after : r ≡ (raising (meaning w.inner)).0 → meaning n ≡ (raising (meaning w.inner)).1 → view_of meaning (moved n) ≡ (raising view).1
+    raise_shown-after answer after = (raise_shown answer after).shown
+
+    pub raise_shown-bounded : r ≡ (raising (meaning w.inner)).0 → meaning n ≡ (raising (meaning w.inner)).1 → Bounded meaning w (moved n)
+    raise_shown-bounded answer after = (raise_shown answer after).bounded
+
+    pub raise_shown-laws : r ≡ (raising (meaning w.inner)).0 → meaning n ≡ (raising (meaning w.inner)).1 → RaiseLaws view (r, view_of meaning (moved n))
+    raise_shown-laws answer after = (raise_shown answer after).laws
+
+    up_shown : (charge tear : ℕ) → r ≡ (powering_up (meaning w.inner) charge tear).0 → meaning n ≡ (powering_up (meaning w.inner) charge tear).1 → Did meaning w (moved n) r (powering_up view charge tear) (SupplyLaws view)
+    up_shown charge tear answer after =
         let m = meaning w.inner in
         did n r (powering_up view charge tear) (SupplyLaws view)
         (answer ∙ up_answer w.first w.count m charge tear)
@@ -133,10 +186,31 @@ module _ {M : Type 0} (meaning : M → Mem) (w : Window M) where
         (same-untouched w.first w.count m.held (meaning n).held (ap (λ (q : Mem). q.held.rows) after ∙ (up_laws m charge tear).rows))
         (up_laws view charge tear)
 
-  pub did_nothing : (i : ℕ) (x : Row) (f : Fault) → length view.held.rows ≤ i → f ≡ fault_at NoRow Memory i → Did meaning w w (Err f) (putting view i x) (PutLaws view i x)
-  did_nothing i x f beyond e =
-      did w.inner (Err f) (putting view i x) (PutLaws view i x)
-      (let step : ◌≡◌ {A = Result (Unit {0}) Fault} (Err f) (Err (fault_at NoRow Memory i)) = ap Err e in step ∙ (put_beyond view i x beyond).0)
-      (put_beyond view i x beyond).1
+    pub up_shown-answer : (charge tear : ℕ) → r ≡ (powering_up (meaning w.inner) charge tear).0 → meaning n ≡ (powering_up (meaning w.inner) charge tear).1 → r ≡ (powering_up view charge tear).0
+    up_shown-answer charge tear answer after = (up_shown charge tear answer after).answer
+
+    pub up_shown-after : (charge tear : ℕ) → r ≡ (powering_up (meaning w.inner) charge tear).0 → meaning n ≡ (powering_up (meaning w.inner) charge tear).1 → view_of meaning (moved n) ≡ (powering_up view charge tear).1
+    up_shown-after charge tear answer after = (up_shown charge tear answer after).shown
+
+    pub up_shown-bounded : (charge tear : ℕ) → r ≡ (powering_up (meaning w.inner) charge tear).0 → meaning n ≡ (powering_up (meaning w.inner) charge tear).1 → Bounded meaning w (moved n)
+    up_shown-bounded charge tear answer after = (up_shown charge tear answer after).bounded
+
+    pub up_shown-laws : (charge tear : ℕ) → r ≡ (powering_up (meaning w.inner) charge tear).0 → meaning n ≡ (powering_up (meaning w.inner) charge tear).1 → SupplyLaws view (r, view_of meaning (moved n))
+    up_shown-laws charge tear answer after = (up_shown charge tear answer after).laws
+
+  -- A row that the window does not show.
+  put_beyond : (h : Held) (i : ℕ) (x : Row) (e : Fault) → h ≡ (meaning w.inner).held → e ≡ fault_at NoRow Memory i → length (shown_held w.first w.count h).rows ≤ i → Did meaning w w (Err e) (putting view i x) (PutLaws view i x)
+  put_beyond h i x e agrees is beyond =
+      let past : length view.held.rows ≤ i = rw agrees at beyond in
+      let step : ◌≡◌ {A = Result (Unit {0}) Fault} (Err e) (Err (fault_at NoRow Memory i)) = ap Err is in
+      did w.inner (Err e) (putting view i x) (PutLaws view i x)
+      (step ∙ (put_missing view i x past).0)
+      (put_missing view i x past).1
       (same-untouched w.first w.count (meaning w.inner).held (meaning w.inner).held refl)
       (put_laws view i x)
+
+  pub put_beyond-answer : (h : Held) (i : ℕ) (x : Row) (e : Fault) → h ≡ (meaning w.inner).held → e ≡ fault_at NoRow Memory i → length (shown_held w.first w.count h).rows ≤ i → Err e ≡ (putting view i x).0
+  put_beyond-answer h i x e agrees is beyond = (put_beyond h i x e agrees is beyond).answer
+
+  pub put_beyond-after : (h : Held) (i : ℕ) (x : Row) (e : Fault) → h ≡ (meaning w.inner).held → e ≡ fault_at NoRow Memory i → length (shown_held w.first w.count h).rows ≤ i → view ≡ (putting view i x).1
+  put_beyond-after h i x e agrees is beyond = (put_beyond h i x e agrees is beyond).shown

@@ -1,7 +1,6 @@
 -- A window means what it shows of its memory, and only its own rows change through it. Assumes nothing.
-use Rattle.std.specs.Prelude.{◌≡◌, Result}
-use Rattle.base.specs.declared.Fault.{Fault}
-use Rattle.memory.specs.Model.{Held, Mem, Outcome}
+use Rattle.std.specs.Prelude.{◌≡◌}
+use Rattle.memory.specs.Model.{Held, Mem}
 use Rattle.memory.specs.Shown.{shown_held, shown_mem, Untouched}
 use Rattle.memory.specs.declared.window.Window.{Window}
 
@@ -16,11 +15,3 @@ pub record Bounded {M : Type 0} (meaning : M → Mem) (before after : Window M) 
   pub first : after.first ≡ before.first
   pub count : after.count ≡ before.count
   pub untouched : Untouched before.first before.count (meaning before.inner).held (meaning after.inner).held
-
--- A call through a window: r is the answer and the window shows the memory of the outcome o, only its own rows
--- changed, and the laws L of such a call hold.
-pub record Did {M : Type 0} (meaning : M → Mem) (before after : Window M) (r : Result (Unit {0}) Fault) (o : Outcome) (L : Outcome → Type 0) : Type 0 where
-  pub answer : r ≡ o.0
-  pub shown : view_of meaning after ≡ o.1
-  pub bounded : Bounded meaning before after
-  pub laws : L (r, view_of meaning after)

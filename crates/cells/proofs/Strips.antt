@@ -1,8 +1,8 @@
 -- How a strip counts. Assumes nothing.
-use Rattle.std.proofs.Common.{◌≡◌, ℕ, zero, suc, ◌+◌, ◌-◌, ◌*◌, ◌/◌, ◌%◌, ◌^◌, ◌<◌, ◌≤◌, min, Bool, true, cond, ◌&&◌, eqb, ltb, List, [], ◌∷◌, length, get_or, drop, set, replicate, sym, refl, ap, ◌∙◌, inl, inr, arith}
+use Rattle.std.proofs.Common.{◌≡◌, ℕ, zero, suc, ◌+◌, ◌-◌, ◌*◌, ◌/◌, ◌%◌, ◌^◌, ◌<◌, ◌≤◌, min, Bool, true, cond, ◌&&◌, eqb, ltb, List, [], ◌∷◌, length, get_or, set, replicate, sum_by, sym, refl, ap, ◌∙◌, inl, inr, arith}
 use lib.Bits.{bit_and}
 use lib.Count.{ones, ones_in, ones-le}
-use Rattle.std.proofs.lemmas.List.{at_drop_more, at_drop_all}
+use Rattle.std.proofs.lemmas.List.Sums.{sum_by-cons}
 use Rattle.std.proofs.lemmas.Bool.{ltb-true, eqb-true, lt-ltb, le-ltb, cases_lt, cases_eq, and_parts, cond-true, cond-false, cond_both}
 use Rattle.std.proofs.lemmas.Bool.Decides.{nat_tests}
 use Rattle.cells.specs.Bounds.{strip_bytes, strip_bits}
@@ -70,12 +70,6 @@ counted s n h e =
     let k : zeros s ≡ n = ap zeros e ∙ z in
     (e ∙ ap (cleared strip_bytes) (sym k), k)
 
-pub zeros-more : (s : List ℕ) (i : ℕ) → i < length s → zeros (drop i s) ≡ zero_bits (get_or s i 0) + zeros (drop (i + 1) s)
-zeros-more s i h = at_drop_more zeros s i 0 h
-
-pub zeros_all : (s : List ℕ) (i : ℕ) → length s ≤ i → zeros (drop i s) ≡ 0
-zeros_all s i h = at_drop_all zeros s i h
-
 cleared-none : (l : ℕ) → replicate l 255 ≡ cleared l 0
 unfolding cleared
 cleared-none zero = refl
@@ -104,6 +98,14 @@ zeros_le (b ∷ bs) =
     let here : zero_bits b ≤ 8 = ones-le 8 (2 ^ 8 - 1 - b) (omega arith) in
     let rest : zeros bs ≤ 8 * length bs = zeros_le bs in
     omega arith
+
+-- The count is the sum of what the bytes count.
+pub sum-zeros : (s : List ℕ) → sum_by zero_bits s ≡ zeros s
+sum-zeros [] = refl
+sum-zeros (b ∷ bs) = sum_by-cons zero_bits b bs ∙ ap (λ n. zero_bits b + n) (sum-zeros bs)
+
+pub sum-zeros-le : (s : List ℕ) → sum_by zero_bits s ≤ 8 * length s
+sum-zeros-le s = rw (sum-zeros s) (zeros_le s)
 
 -- The prefix never passes the strip.
 legal_le : (s : List ℕ) → Legal s → zeros s ≤ strip_bits

@@ -12,9 +12,11 @@ by_kind Written bs = written bs
 by_kind Blank bs = blank
 by_kind Spoilt bs = spoilt
 
--- A row of the rewriting part names its kind.
+-- A row of the rewriting part is what it means.
 abbrev pub plain_means : PlainRow → Row
-plain_means r = by_kind r.kind r.bytes
+plain_means (PlainRow.Written bs) = written bs
+plain_means PlainRow.Blank = blank
+plain_means PlainRow.Spoilt = spoilt
 
 -- The marks of a flash row: 255 is blank, 15 written, and any other spoilt.
 abbrev pub blank_mark : ℕ

@@ -1,7 +1,7 @@
 -- What the two counters count. Assumes nothing.
 use Rattle.std.specs.Prelude.{ℕ}
 use Rattle.cells.specs.declared.counter.Register.{Register}
-use Rattle.cells.specs.declared.strip.Strip.{Strip}
+use Rattle.cells.specs.declared.counter.Strip.{Strip}
 use Rattle.cells.specs.Strip.{zeros}
 
 -- A register holds its count.

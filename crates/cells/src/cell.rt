@@ -1,7 +1,7 @@
-// The rows of a part's table: a rewriting part's name their kind, a flash part's have a mark.
+// The rows of a part's table: a rewriting part's are what they mean, a flash part's have a mark.
 ghost use Rattle.std.specs.Prelude.{◌≡◌};
 ghost use Rattle.memory.specs.Model.{Row, written, blank as blank_row, spoilt, kind_of, shown_of};
-ghost use Rattle.cells.specs.Cells.{by_kind, plain_means, flash_means, marked, all_blank, written_mark, spoilt_mark};
+ghost use Rattle.cells.specs.Cells.{plain_means, flash_means, marked, all_blank, written_mark, spoilt_mark};
 
 use base::ROW_BYTES;
 use memory::RowKind;
@@ -38,17 +38,18 @@ pub trait Cell: Sized {
 }
 
 /// A row of the rewriting part.
-#[derive(Clone, Copy)]
-pub struct PlainRow {
-    pub(super) kind: RowKind,
-    pub(super) bytes: [u8; ROW_BYTES],
+#[derive(Clone, Copy, Debug, PartialEq, Eq)]
+pub enum PlainRow {
+    Written([u8; ROW_BYTES]),
+    Blank,
+    Spoilt,
 }
 
-/// A row of the flash part.
-#[derive(Clone, Copy)]
+/// A row of the flash part. Its mark is a byte of the memory, not an enum: a cut may leave any value.
+#[derive(Clone, Copy, Debug, PartialEq, Eq)]
 pub struct FlashRow {
-    pub(super) mark: u8,
-    pub(super) bytes: [u8; ROW_BYTES],
+    mark: u8,
+    bytes: [u8; ROW_BYTES],
 }
 
 // The mark of a blank flash row.
@@ -66,47 +67,39 @@ const BLANK_BYTE: u8 = 255;
 // What a row that is not written reads as.
 const NO_BYTES: [u8; ROW_BYTES] = [0; ROW_BYTES];
 
-// Fills an area with what a row of a kind reads as.
-fn fill(area: &mut [u8; ROW_BYTES], kind: RowKind, bytes: &[u8; ROW_BYTES])
-    ensures { area.new ≡ shown_of (by_kind kind bytes.now) }
-{
-    *area = match kind {
-        RowKind::Written => *bytes,
-        RowKind::Blank | RowKind::Spoilt => NO_BYTES,
-    };
-}
-
 impl Cell for PlainRow {
     ghost means = { plain_means };
 
     fn new() -> PlainRow {
-        PlainRow {
-            kind: RowKind::Blank,
-            bytes: NO_BYTES,
-        }
+        PlainRow::Blank
     }
 
     fn write(&mut self, bytes: &[u8; ROW_BYTES]) {
-        self.kind = RowKind::Written;
-        self.bytes = *bytes;
+        *self = PlainRow::Written(*bytes);
     }
 
     fn blank(&mut self) {
-        self.kind = RowKind::Blank;
+        *self = PlainRow::Blank;
     }
 
     fn spoil(&mut self) {
-        self.kind = RowKind::Spoilt;
+        *self = PlainRow::Spoilt;
     }
 
     fn show(&self, area: &mut [u8; ROW_BYTES]) -> RowKind {
-        fill(area, self.kind, &self.bytes);
-        self.kind
+        *area = match self {
+            PlainRow::Written(bytes) => *bytes,
+            PlainRow::Blank | PlainRow::Spoilt => NO_BYTES,
+        };
+        self.kind()
     }
 
     fn kind(&self) -> RowKind {
-        let PlainRow { kind, .. } = *self;
-        kind
+        match self {
+            PlainRow::Written(_) => RowKind::Written,
+            PlainRow::Blank => RowKind::Blank,
+            PlainRow::Spoilt => RowKind::Spoilt,
+        }
     }
 }
 
@@ -135,8 +128,7 @@ impl Cell for FlashRow {
         ensures means { flash_means self.new ≡ blank_row }
         ensures held { self.new ≡ all_blank }
     {
-        self.mark = BLANK_MARK;
-        self.bytes = [BLANK_BYTE; ROW_BYTES];
+        *self = FlashRow::new();
     }
 
     fn spoil(&mut self)
@@ -148,7 +140,10 @@ impl Cell for FlashRow {
 
     fn show(&self, area: &mut [u8; ROW_BYTES]) -> RowKind {
         let kind = self.kind();
-        fill(area, kind, &self.bytes);
+        *area = match kind {
+            RowKind::Written => self.bytes,
+            RowKind::Blank | RowKind::Spoilt => NO_BYTES,
+        };
         kind
     }
 

@@ -1,10 +1,7 @@
 // The counters of the parts: a register of 32 bits, and a strip of bits that are only cleared.
 ghost use Rattle.std.specs.Prelude.{◌≡◌, ℕ, ◌/◌, ◌^◌, ◌<◌, bit_and};
 ghost use Rattle.cells.specs.Bounds.{register_limit, strip_bits};
-ghost use Rattle.cells.specs.Counters.{register_count, strip_count};
 ghost use Rattle.cells.specs.Strip.{zeros, Legal, stepped, stepped_strip, new_strip, StripLaws};
-
-use super::strip::{STRIP_BYTES, Strip};
 
 /// A count that rises by one and never passes its ceiling.
 pub trait Counter: Sized {
@@ -32,9 +29,19 @@ pub trait Counter: Sized {
 }
 
 /// The count of a rewriting part.
-#[derive(Clone, Copy)]
+#[derive(Clone, Copy, Debug, PartialEq, Eq)]
 pub struct Register {
     count: u32,
+}
+
+/// The bytes of a flash part's strip.
+pub const STRIP_BYTES: usize = 512;
+
+/// The count of a flash part, in cleared bits: those cleared are always the first ones.
+#[derive(Clone, Copy)]
+pub struct Strip {
+    bytes: [u8; STRIP_BYTES],
+    ghost prefix: { Legal bytes },
 }
 
 // The bits of a strip, which its count cannot pass.
@@ -46,10 +53,9 @@ const UNCLEARED: u8 = 255;
 // A byte of which the highest bit is cleared: a mask that clears it.
 const WITHOUT_HIGHEST: u8 = 127;
 
-// The bits of a byte.
-const BYTE_BITS: u32 = 8;
-
 impl Counter for Register {
+    ghost use Rattle.cells.specs.Counters.{register_count};
+
     ghost counted = { register_count };
 
     ghost limit = { register_limit };
@@ -59,8 +65,7 @@ impl Counter for Register {
     }
 
     fn count(&self) -> u32 {
-        let Register { count } = *self;
-        count
+        self.count
     }
 
     fn ceiling(&self) -> u32 {
@@ -68,9 +73,7 @@ impl Counter for Register {
     }
 
     fn step(&mut self) {
-        if self.count < self.ceiling() {
-            self.count += 1;
-        }
+        self.count = self.count.saturating_add(1);
     }
 }
 
@@ -78,11 +81,7 @@ impl Counter for Register {
 fn zero_bits(strip: &[u8; STRIP_BYTES]) -> u32
     ensures { result ≡ zeros strip.now }
 {
-    let mut count = 0;
-    for byte in strip {
-        count += byte.count_zeros();
-    }
-    count
+    strip.iter().map(|byte| byte.count_zeros()).sum()
 }
 
 // A strip of which no bit is cleared.
@@ -112,14 +111,16 @@ fn stepped_copy(strip: &[u8; STRIP_BYTES]) -> [u8; STRIP_BYTES]
 {
     let mut copy = *strip;
     let count = zero_bits(strip);
-    let place = (count / BYTE_BITS) as usize;
+    let place = (count / u8::BITS) as usize;
     if place < STRIP_BYTES {
-        copy[place] = clear_bit(copy[place], count % BYTE_BITS);
+        copy[place] = clear_bit(copy[place], count % u8::BITS);
     }
     copy
 }
 
 impl Counter for Strip {
+    ghost use Rattle.cells.specs.Counters.{strip_count};
+
     ghost counted = { strip_count };
 
     ghost limit = { strip_bits };
@@ -147,7 +148,6 @@ impl Counter for Strip {
         ensures strip { self.new.bytes ≡ stepped_strip self.old.bytes }
         ensures laws { StripLaws }
     {
-        let copy = stepped_copy(&self.bytes);
-        self.bytes = copy;
+        self.bytes = stepped_copy(&self.bytes);
     }
 }

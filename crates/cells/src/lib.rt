@@ -3,8 +3,6 @@
 
 mod cell;
 mod counter;
-mod strip;
 
 pub use cell::{Cell, FlashRow, PlainRow};
-pub use counter::{Counter, Register};
-pub use strip::Strip;
+pub use counter::{Counter, Register, Strip};

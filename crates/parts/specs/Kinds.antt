@@ -3,7 +3,7 @@ use Rattle.memory.specs.Model.{Mem}
 use Rattle.cells.specs.declared.cell.PlainRow.{PlainRow}
 use Rattle.cells.specs.declared.cell.FlashRow.{FlashRow}
 use Rattle.cells.specs.declared.counter.Register.{Register}
-use Rattle.cells.specs.declared.strip.Strip.{Strip}
+use Rattle.cells.specs.declared.counter.Strip.{Strip}
 use Rattle.parts.specs.declared.part.Part.{Part}
 use Rattle.cells.specs.Bounds.{register_limit, strip_bits}
 use Rattle.cells.specs.Cells.{plain_means, flash_means}

@@ -8,7 +8,7 @@ use Rattle.parts.specs.Kinds.{rewriting_means, flash_part_means}
 use Rattle.cells.specs.declared.cell.PlainRow.{PlainRow}
 use Rattle.cells.specs.declared.cell.FlashRow.{FlashRow}
 use Rattle.cells.specs.declared.counter.Register.{Register}
-use Rattle.cells.specs.declared.strip.Strip.{Strip}
+use Rattle.cells.specs.declared.counter.Strip.{Strip}
 use Rattle.parts.specs.declared.part.Part.{Part}
 use Rattle.parts.specs.declared.NotMade.{NotMade}
 use Rattle.parts.specs.Part.{InRange, Refusal}

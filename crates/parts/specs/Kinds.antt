@@ -4,7 +4,7 @@ use Rattle.cells.specs.declared.cell.PlainRow.{PlainRow}
 use Rattle.cells.specs.declared.cell.FlashRow.{FlashRow}
 use Rattle.cells.specs.declared.counter.Register.{Register}
 use Rattle.cells.specs.declared.counter.Strip.{Strip}
-use Rattle.parts.specs.declared.part.Part.{Part}
+use Rattle.parts.specs.declared.Part.{Part}
 use Rattle.cells.specs.Bounds.{register_limit, strip_bits}
 use Rattle.cells.specs.Cells.{plain_means, flash_means}
 use Rattle.cells.specs.Counters.{register_count, strip_count}

@@ -1,22 +1,29 @@
 -- A part's supply: what it lets a change do, and what a change becomes by it. Assumes nothing.
-use Rattle.std.specs.Prelude.{ℕ, ◌-◌, Bool, false, cond, Ok, Err, Result, ◌==◌, nat_lt}
-use Rattle.base.specs.declared.Case.TheVariants.{PowerOff, PowerCut, CountFull}
+use Rattle.std.specs.Prelude.{ℕ, ◌-◌, Bool, false, cond, Some, None, Ok, Err, List, Option, Result, ◌==◌, nat_lt}
+use Rattle.base.specs.declared.Case.TheVariants.{BadShape, PowerOff, CountFull}
 use Rattle.base.specs.declared.Layer.TheVariants.{Memory}
 use Rattle.base.specs.declared.Fault.{Fault}
-use Rattle.base.specs.Faults.{fault_at, fault}
+use Rattle.base.specs.Faults.{fault}
 use Rattle.memory.specs.Model.{Row, written, blank, spoilt}
 use Rattle.parts.specs.declared.supply.Supply.{Supply}
-use Rattle.parts.specs.declared.supply.Fate.{Fate}
-use Rattle.parts.specs.declared.supply.Fate.TheVariants.{Done, CutOld, CutNew, CutSpoilt}
-use Rattle.parts.specs.declared.supply.Change.{Change}
-use Rattle.parts.specs.declared.supply.Change.TheVariants.{Write, Blank}
+use Rattle.parts.specs.declared.supply.Tear.{Tear}
+use Rattle.parts.specs.declared.supply.Tear.TheVariants.{Old, New, Spoilt}
 
-abbrev pub supply : Bool → ℕ → ℕ → Supply
+abbrev pub supply : Bool → ℕ → Tear → Supply
 supply power charge tear = record { power = power; charge = charge; tear = tear }
 
--- What becomes of the next change: with charge left it is done, else the tear says what the cut leaves.
-abbrev pub fate_of : Supply → Fate
-fate_of s = cond (s.charge == 0) (cond (s.tear == 0) CutOld (cond (s.tear == 1) CutNew CutSpoilt)) Done
+-- The number of a tear, and the tear with a number.
+abbrev pub tear_number : Tear → ℕ
+tear_number Old = 0
+tear_number New = 1
+tear_number Spoilt = 2
+
+abbrev pub tear_of : ℕ → Result Tear Fault
+tear_of n = cond (n == 0) (Ok Old) (cond (n == 1) (Ok New) (cond (n == 2) (Ok Spoilt) (Err (fault BadShape Memory))))
+
+-- What the supply lets the next change do: with charge left it is done, else the cut leaves what the tear says.
+abbrev pub drawing : Supply → Result (Unit {0}) Tear
+drawing s = cond (s.charge == 0) (Err s.tear) (Ok tt)
 
 -- A change takes one charge, and with none left the power goes off.
 abbrev pub drawn : Supply → Supply
@@ -26,28 +33,26 @@ drawn s = cond (s.charge == 0) (supply false s.charge s.tear) (supply s.power (s
 abbrev pub admitting_raise : Bool → ℕ → ℕ → Result (Unit {0}) Fault
 admitting_raise power count ceiling = cond power (cond (nat_lt count ceiling) (Ok tt) (Err (fault CountFull Memory))) (Err (fault PowerOff Memory))
 
--- What the caller is told of a change at row i.
-abbrev pub fated : Fate → ℕ → Result (Unit {0}) Fault
-fated Done i = Ok tt
-fated CutOld i = Err (fault_at PowerCut Memory i)
-fated CutNew i = Err (fault_at PowerCut Memory i)
-fated CutSpoilt i = Err (fault_at PowerCut Memory i)
+-- What the caller is told of a change, where f is the fault of a cut.
+abbrev pub cut_told : Result (Unit {0}) Tear → Fault → Result (Unit {0}) Fault
+cut_told (Ok _) f = Ok tt
+cut_told (Err _) f = Err f
 
 -- What a row becomes that was to become another.
-abbrev pub fated_row : Fate → Row → Row → Row
-fated_row Done old new = new
-fated_row CutOld old new = old
-fated_row CutNew old new = new
-fated_row CutSpoilt old new = spoilt
+abbrev pub left_row : Result (Unit {0}) Tear → Row → Row → Row
+left_row (Ok _) old new = new
+left_row (Err Old) old new = old
+left_row (Err New) old new = new
+left_row (Err Spoilt) old new = spoilt
 
 -- What a count becomes that was to become another. A count cannot be spoilt: it stays.
-abbrev pub fated_count : Fate → ℕ → ℕ → ℕ
-fated_count Done old new = new
-fated_count CutOld old new = old
-fated_count CutNew old new = new
-fated_count CutSpoilt old new = old
+abbrev pub left_count : Result (Unit {0}) Tear → ℕ → ℕ → ℕ
+left_count (Ok _) old new = new
+left_count (Err Old) old new = old
+left_count (Err New) old new = new
+left_count (Err Spoilt) old new = old
 
--- What a change is to make of a row.
-abbrev pub becoming : Change → Row
-becoming (Write bytes) = written bytes
-becoming Blank = blank
+-- What a change makes of a row: it is written with bytes, or blank where there are none.
+abbrev pub becoming : Option (List ℕ) → Row
+becoming (Some bytes) = written bytes
+becoming None = blank

@@ -1,6 +1,6 @@
 use Rattle.std.proofs.Common.{◌≡◌, map, replicate, vec_items, vec_len}
 use Rattle.memory.specs.Model.{blank}
-use Rattle.parts.proofs.table.Table.blank.Given as goal
+use Rattle.parts.proofs.blank_rows.Given as goal
 
 abbrev pub invariant-loop : goal.invariant-loop
 invariant-loop g l =

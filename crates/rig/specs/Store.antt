@@ -9,29 +9,26 @@ use Rattle.cells.specs.declared.cell.PlainRow.{PlainRow}
 use Rattle.cells.specs.declared.cell.FlashRow.{FlashRow}
 use Rattle.cells.specs.declared.counter.Register.{Register}
 use Rattle.cells.specs.declared.counter.Strip.{Strip}
-use Rattle.parts.specs.declared.part.Part.{Part}
+use Rattle.parts.specs.declared.Part.{Part}
 use Rattle.parts.specs.declared.NotMade.{NotMade}
 use Rattle.parts.specs.Part.{InRange, Refusal}
 use Rattle.script.specs.declared.commands.Style.{Style}
 use Rattle.either_memory.specs.declared.Either.{Either}
-use Rattle.either_memory.specs.declared.Either.TheVariants.{Left, Right}
 use Rattle.rig.specs.declared.desk.Rig.{Rig}
+use Rattle.rig.specs.declared.desk.Store.{Store}
 use Rattle.either_memory.specs.Either.{either_of}
 use Rattle.rig.specs.Desk.{Setup, setup, Desk, new_part}
 
 abbrev pub AnyPart : Type 0
 AnyPart = Either (Part PlainRow Register) (Part FlashRow Strip)
 
-abbrev pub Store : Type 0
-Store = Either AnyPart (Either (Window AnyPart) (Window (Window AnyPart)))
-
 abbrev pub part_means : AnyPart → Mem
 part_means = either_of rewriting_means flash_part_means
 
 abbrev pub setup_of : Store → Setup
-setup_of (Left p) = setup (part_means p) 0
-setup_of (Right (Left w)) = setup (view_of part_means w) 1
-setup_of (Right (Right w)) = setup (view_of (view_of part_means) w) 2
+setup_of (Store.Bare p) = setup (part_means p) 0
+setup_of (Store.Window w) = setup (view_of part_means w) 1
+setup_of (Store.Nested w) = setup (view_of (view_of part_means) w) 2
 
 abbrev pub desk_of : Rig → Desk
 desk_of r = option_map setup_of r.store

@@ -12,34 +12,29 @@ use script::{Command, cleaned, first_line, name, parse};
 use std::alloc::{AllocError, Global};
 
 // Performs a command, if there is one.
-fn obey(rig: &mut Rig, heap: Global, command: Option<Command>) -> Result<Reply, AllocError>
+fn obey(rig: &mut Rig, command: Option<Command>) -> Result<Reply, AllocError>
     ensures { Answered result (obeying (desk_of rig.old) command) (desk_of rig.old) (desk_of rig.new) }
 {
     match command {
-        Some(command) => rig.perform(heap, &command),
+        Some(command) => rig.perform(&command),
         None => Ok(Reply::Misuse),
     }
 }
 
 // Performs a cleaned line, and prints what it is answered.
-fn run_line(rig: &mut Rig, heap: Global, line: &[u8], out: &mut Vec<u8>) -> Result<(), AllocError>
+fn run_line(rig: &mut Rig, line: &[u8], out: &mut Vec<u8>) -> Result<(), AllocError>
     ensures printed { OnOk result (out.new.items ≡ out.old.items ++ (line_done (desk_of rig.old) line.now).0) }
     ensures leaves { OnOk result (desk_of rig.new ≡ (line_done (desk_of rig.old) line.now).1) }
 {
     if line.is_empty() {
         return Ok(());
     }
-    let reply = obey(rig, heap, parse(line))?;
+    let reply = obey(rig, parse(line))?;
     print(out, name(line), &reply)
 }
 
 // Performs the lines of a script, and prints what each is answered.
-fn run_lines(
-    rig: &mut Rig,
-    heap: Global,
-    script: &[u8],
-    out: &mut Vec<u8>,
-) -> Result<(), AllocError>
+fn run_lines(rig: &mut Rig, script: &[u8], out: &mut Vec<u8>) -> Result<(), AllocError>
     ensures printed { OnOk result (out.new.items ≡ out.old.items ++ (lines_done (desk_of rig.old) (lines_of script.now)).0) }
     ensures leaves { OnOk result (desk_of rig.new ≡ (lines_done (desk_of rig.old) (lines_of script.now)).1) }
     ensures edges { Edges }
@@ -47,7 +42,7 @@ fn run_lines(
     let mut rest = script;
     while !rest.is_empty() {
         let (line, more) = first_line(rest);
-        run_line(rig, heap, cleaned(line), out)?;
+        run_line(rig, cleaned(line), out)?;
         rest = more;
     }
     Ok(())
@@ -58,8 +53,8 @@ pub fn transcript(heap: Global, script: &[u8]) -> Result<Vec<u8>, AllocError>
     ensures printed { IfOk result (λ v. v.items ≡ transcript_of script.now) }
     ensures edges { Edges }
 {
-    let mut rig = Rig::new();
+    let mut rig = Rig::new(heap);
     let mut out = Vec::new(heap);
-    run_lines(&mut rig, heap, script, &mut out)?;
+    run_lines(&mut rig, script, &mut out)?;
     Ok(out)
 }

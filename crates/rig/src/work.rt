@@ -45,13 +45,9 @@ fn load_image<M: Rows>(memory: &M, slot_rows: u16) -> Reply
 fn row_kinds<M: Probe>(heap: Global, memory: &M) -> Result<Vec<RowKind>, AllocError>
     ensures { IfOk result (λ v. v.items ≡ map kind_of (M.Rows.held memory.now).rows) }
 {
-    let mut kinds = Vec::new(heap);
-    for i in 0..memory.size() {
-        if let Some(kind) = memory.probe(i) {
-            kinds.push(kind)?;
-        }
-    }
-    Ok(kinds)
+    (0..memory.size())
+        .filter_map(|row| memory.probe(row))
+        .collect(heap)
 }
 
 // Performs a command on a memory.

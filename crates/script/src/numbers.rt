@@ -31,7 +31,7 @@ fn digit(byte: u8, base: u8) -> Option<u8>
 
 // A number with one more digit, if it has no more than 64 bits.
 fn grown(n: u64, base: u8, digit: u8) -> Option<u64>
-    ensures { result ≡ at_most 18446744073709551615 (Some (n * base + digit)) }
+    ensures { result ≡ at_most u64.MAX (Some (n * base + digit)) }
 {
     n.checked_mul(u64::from(base))?
         .checked_add(u64::from(digit))
@@ -40,7 +40,7 @@ fn grown(n: u64, base: u8, digit: u8) -> Option<u64>
 // The number of one or more digits, if it has no more than 64 bits.
 fn number_in(digits: &[u8], base: u8) -> Option<u64>
     requires { 0 < base }
-    ensures { result ≡ at_most 18446744073709551615 (in_base base digits.now) }
+    ensures { result ≡ at_most u64.MAX (in_base base digits.now) }
 {
     if digits.is_empty() {
         return None;

@@ -51,12 +51,11 @@ byte_back b l =
     simp (high, low) (ap Some whole)
 
 bytes_back : (bs : List ℕ) → AllByRecursion (λ b. b < 256) bs → bytes_of (hex_text bs) ≡ Some bs
-unfolding hex_text bytes_of
+unfolding bytes_of
 bytes_back [] h = refl
 bytes_back (b ∷ bs) h = bytes_at (hex_digit (b / 16)) (hex_digit (b % 16)) b (hex_text bs) (byte_back b h.0) ∙ ap (option_map (λ xs. b ∷ xs)) (bytes_back bs h.1)
 
 hex_length : (bs : List ℕ) → length (hex_text bs) ≡ 2 * length bs
-unfolding hex_text
 hex_length [] = refl
 hex_length (b ∷ bs) = omega (arith, hex_length bs)
 

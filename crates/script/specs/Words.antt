@@ -1,5 +1,6 @@
 -- Numbers and bytes as a word writes them. Assumes nothing.
 use Rattle.std.specs.Prelude.{ℕ, ◌+◌, ◌-◌, ◌*◌, ◌/◌, ◌%◌, Bool, cond, ◌&&◌, List, [], ◌∷◌, length, drop, Some, None, Option, ◌==◌, nat_le, nat_lt, slice_index}
+use Rattle.std.specs.List.{flat_map}
 use Rattle.std.specs.Option.{option_map, option_zip, option_and_then}
 
 -- A number that is not too great, or none.
@@ -71,6 +72,8 @@ row_bytes word = bytes_in 64 word
 abbrev pub hex_digit : ℕ → ℕ
 hex_digit d = cond (nat_lt d 10) (48 + d) (87 + d)
 
-unfoldable pub hex_text : List ℕ → List ℕ
-hex_text [] = []
-hex_text (b ∷ bs) = hex_digit (b / 16) ∷ (hex_digit (b % 16) ∷ hex_text bs)
+abbrev pub hex_byte : ℕ → List ℕ
+hex_byte b = hex_digit (b / 16) ∷ (hex_digit (b % 16) ∷ [])
+
+abbrev pub hex_text : List ℕ → List ℕ
+hex_text bs = flat_map hex_byte bs

@@ -1,7 +1,7 @@
 -- The replies of a script, as they are printed. Assumes nothing.
-use Rattle.std.specs.Prelude.{◌≡◌, ℕ, List, [], ◌∷◌, ◌++◌, map, length, take, Ok, Err, vec_items, codes, decimal, Result}
+use Rattle.std.specs.Prelude.{ℕ, List, [], ◌∷◌, ◌++◌, map, vec_items, codes, decimal}
 use Rattle.base.specs.declared.Fault.{Fault}
-use Rattle.base.specs.Faults.{number, layer_number}
+use Rattle.base.specs.Faults.{number, layer_number, row_number}
 use Rattle.memory.specs.declared.RowKind.{RowKind}
 use Rattle.memory.specs.declared.RowKind.TheVariants.{Written, Blank, Spoilt}
 use Rattle.script.specs.Words.{hex_text}
@@ -40,7 +40,7 @@ kind_letter Blank = 98
 kind_letter Spoilt = 115
 
 -- A number with a text before it.
-unfoldable pub numbered : List ℕ → ℕ → List ℕ
+abbrev pub numbered : List ℕ → ℕ → List ℕ
 numbered label n = label ++ decimal n
 
 -- A fault: its three numbers.
@@ -51,7 +51,7 @@ abbrev pub layer_text : Fault → List ℕ
 layer_text f = numbered (codes " layer ") (layer_number f.layer)
 
 abbrev pub fault_text : Fault → List ℕ
-fault_text f = case_text f ++ (layer_text f ++ numbered (codes " row ") f.row)
+fault_text f = case_text f ++ (layer_text f ++ numbered (codes " row ") (row_number f.row))
 
 -- What follows the name.
 abbrev pub text_of : Said → List ℕ
@@ -66,8 +66,3 @@ text_of (loaded slot version) = numbered (codes "slot ") slot ++ numbered (codes
 -- The line that is printed: the command's name, the text, and byte 10.
 unfoldable pub line_text : List ℕ → Said → List ℕ
 line_text name s = name ++ (codes ": " ++ (text_of s ++ (10 ∷ [])))
-
--- What a call that writes leaves: the text behind what was there, or, where memory fails, something behind it.
-abbrev pub Puts : {T E : Type 0} → Result T E → List ℕ → List ℕ → List ℕ → Type 0
-Puts (Ok v) old text new = new ≡ old ++ text
-Puts (Err e) old text new = take (length old) new ≡ old

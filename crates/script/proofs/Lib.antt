@@ -1,5 +1,4 @@
-mod Scans
 pub mod Splits
 mod Readings
-mod Arguments
+mod Names
 mod Trips

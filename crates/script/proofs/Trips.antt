@@ -1,5 +1,5 @@
 -- The laws of a script's text. Assumes nothing.
-use Rattle.std.proofs.Common.{◌≡◌, ℕ, ◌+◌, ◌*◌, ◌/◌, ◌%◌, ◌^◌, ◌<◌, true, false, eqb, ltb, List, [], ◌∷◌, ◌++◌, length, Some, decimal, sym, refl, ap, ◌∙◌, arith}
+use Rattle.std.proofs.Common.{◌≡◌, ℕ, ◌+◌, ◌*◌, ◌/◌, ◌%◌, ◌^◌, ◌<◌, true, false, eqb, ltb, List, [], ◌∷◌, ◌++◌, length, Some, decimal, refl, ap, ◌∙◌, arith}
 use Rattle.std.specs.Str.Parse.{AllDigits, digits_value_after}
 use Rattle.std.specs.Char.{digit_value}
 use Rattle.std.specs.List.{flat_map, AllByRecursion}
@@ -9,8 +9,8 @@ use Rattle.std.proofs.lemmas.List.{append_assoc}
 use Rattle.std.proofs.lemmas.Bool.{ne_eqb, eq-eqb, lt-ltb, and_right, both_ways}
 use Rattle.std.proofs.lemmas.Bool.Decides.{nat_tests}
 use Rattle.script.specs.Text.{lines_of, words_of}
-use Rattle.script.specs.Words.{digit_of, number_from, is_hex, number_of, number_to, bytes_of, bytes_in, hex_digit, hex_text}
-use Rattle.script.specs.Commands.{is_text, command_of}
+use Rattle.script.specs.Words.{digit_in, number_from, is_hex, number_of, number_to, byte_of, bytes_of, bytes_in, hex_digit, hex_text}
+use Rattle.script.specs.Commands.{command_of}
 use Rattle.script.proofs.Readings.{some_digits, bytes_at}
 use Rattle.script.specs.Laws.{Lacks, ScriptLaws, Examples}
 
@@ -40,21 +40,22 @@ words_are : (w : List ℕ) (ws : List (List ℕ)) → Lacks 32 w → AllByRecurs
 words_are w [] h hs = last_word w h
 words_are w (v ∷ ws) h hs = word_first w (v ++ flat_map (λ x. 32 ∷ x) ws) h ∙ ap (λ x. w ∷ x) (words_are v ws hs.0 hs.1)
 
-digit_back : (d : ℕ) → d < 16 → digit_of (hex_digit d) ≡ d
+digit_back : (d : ℕ) → d < 16 → digit_in 16 (hex_digit d) ≡ Some d
 digit_back d l = grind (arith, nat_tests)
 
-bytes_back : (bs : List ℕ) → AllByRecursion (λ b. b < 256) bs → bytes_of (hex_text bs) ≡ Some bs
-unfolding hex_text bytes_of
-bytes_back [] h = refl
-bytes_back (b ∷ bs) h =
-    let high : digit_of (hex_digit (b / 16)) ≡ b / 16 = digit_back (b / 16) (omega (arith, h.0)) in
-    let low : digit_of (hex_digit (b % 16)) ≡ b % 16 = digit_back (b % 16) (omega arith) in
+byte_back : (b : ℕ) → b < 256 → byte_of (hex_digit (b / 16)) (hex_digit (b % 16)) ≡ Some b
+byte_back b l =
+    let high : digit_in 16 (hex_digit (b / 16)) ≡ Some (b / 16) = digit_back (b / 16) (omega (arith, l)) in
+    let low : digit_in 16 (hex_digit (b % 16)) ≡ Some (b % 16) = digit_back (b % 16) (omega arith) in
     let whole : b / 16 * 16 + b % 16 ≡ b = omega arith in
-    bytes_at (hex_digit (b / 16)) (hex_digit (b % 16)) (hex_text bs) (b / 16) (b % 16) (sym high) (sym low) (omega (arith, h.0)) (omega arith)
-    ∙ ap (option_map (λ xs. (b / 16 * 16 + b % 16) ∷ xs)) (bytes_back bs h.1) ∙ ap (λ x. Some (x ∷ bs)) whole
+    simp (high, low) (ap Some whole)
+
+bytes_back : (bs : List ℕ) → AllByRecursion (λ b. b < 256) bs → bytes_of (hex_text bs) ≡ Some bs
+unfolding bytes_of
+bytes_back [] h = refl
+bytes_back (b ∷ bs) h = bytes_at (hex_digit (b / 16)) (hex_digit (b % 16)) b (hex_text bs) (byte_back b h.0) ∙ ap (option_map (λ xs. b ∷ xs)) (bytes_back bs h.1)
 
 hex_length : (bs : List ℕ) → length (hex_text bs) ≡ 2 * length bs
-unfolding hex_text
 hex_length [] = refl
 hex_length (b ∷ bs) = omega (arith, hex_length bs)
 
@@ -63,16 +64,13 @@ unfolding bytes_in
 row_back bs h = let t : eqb (length (hex_text bs)) (2 * length bs) ≡ true = eq-eqb _ _ (hex_length bs) in simp t (bytes_back bs h)
 
 -- A decimal digit has one value, here and where `{n}` is read.
-same_digit : (c : ℕ) → digit_value c < 10 → digit_of c ≡ digit_value c
+same_digit : (c : ℕ) → digit_value c < 10 → digit_in 10 c ≡ Some (digit_value c)
 same_digit c l = grind (arith, nat_tests)
 
 number_is : (n : ℕ) (ds : List ℕ) → AllDigits 10 ds → number_from 10 n ds ≡ Some (digits_value_after 10 n ds)
 unfolding number_from
 number_is n [] h = refl
-number_is n (c ∷ cs) h =
-    let e : digit_of c ≡ digit_value c = same_digit c h.0 in
-    let t : ltb (digit_value c) 10 ≡ true = lt-ltb (digit_value c) 10 h.0 in
-    simp (e, t) (number_is (n * 10 + digit_value c) cs h.1)
+number_is n (c ∷ cs) h = rw (same_digit c h.0) (number_is (n * 10 + digit_value c) cs h.1)
 
 not_hex : (ds : List ℕ) → AllDigits 10 ds → is_hex ds ≡ false
 not_hex [] h = refl
@@ -91,7 +89,7 @@ pub laws : ScriptLaws
 laws = record { lines = lines_are; words = words_are; bytes = row_back; numbers = number_back }
 
 pub examples : Examples
-unfolding words_of number_from number_to bytes_of bytes_in is_text command_of
+unfolding words_of number_from number_to bytes_of bytes_in command_of
 examples = record {
   cleaned = refl;
   part = refl;

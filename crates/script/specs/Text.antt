@@ -1,17 +1,19 @@
 -- The text of a script: lines, comments, white space at the ends, words. Assumes nothing.
-use Rattle.std.specs.Prelude.{ℕ, ◌-◌, Bool, cond, not, ◌&&◌, ◌||◌, List, [], ◌∷◌, length, take, drop, ◌==◌, nat_le}
+use Rattle.std.specs.Prelude.{◌≡◌, ℕ, ◌+◌, ◌-◌, Bool, cond, not, ◌&&◌, ◌||◌, List, [], ◌∷◌, length, take, drop, Some, None, Option, ◌==◌, nat_le, position}
+use Rattle.std.specs.Borrow.{Bor}
 use Rattle.std.specs.List.{prefix_len, suffix_len}
+use Rattle.std.specs.Option.{option_map}
 
 -- How many bytes stand before the first byte c: all, where there is none.
 abbrev pub until : ℕ → List ℕ → ℕ
 until c xs = prefix_len (λ x. not (x == c)) xs
 
--- The bytes before the first c, and from it on.
+-- The bytes before the first c, and those after it, where it stands.
 abbrev pub before : ℕ → List ℕ → List ℕ
 before c xs = take (until c xs) xs
 
-abbrev pub from : ℕ → List ℕ → List ℕ
-from c xs = drop (until c xs) xs
+abbrev pub after : ℕ → List ℕ → Option (List ℕ)
+after c xs = option_map (λ n. drop (n + 1) xs) (position (λ x. x == c) xs)
 
 -- A byte put before the first of some texts, or alone where there is none.
 abbrev pub onto : ℕ → List (List ℕ) → List (List ℕ)
@@ -22,6 +24,11 @@ onto x (t ∷ ts) = (x ∷ t) ∷ ts
 unfoldable pub lines_of : List ℕ → List (List ℕ)
 lines_of [] = []
 lines_of (x ∷ xs) = cond (x == 10) ([] ∷ lines_of xs) (onto x (lines_of xs))
+
+-- From a script the first line is taken, and what follows its end is left. An empty script has no line.
+abbrev pub GivesLine : List ℕ → Option (Bor (List ℕ)) → List ℕ → Type 0
+GivesLine script None rest = (script ≡ []) × (rest ≡ [])
+GivesLine script (Some line) rest = (line.now ≡ before 10 script) × (rest ≡ drop (until 10 script + 1) script) × (lines_of script ≡ line.now ∷ lines_of rest)
 
 -- White space: tabs, line ends and the like, and the space.
 abbrev pub white : ℕ → Bool
@@ -43,10 +50,10 @@ unfoldable pub words_of : List ℕ → List (List ℕ)
 words_of [] = [] ∷ []
 words_of (x ∷ xs) = cond (x == 32) ([] ∷ words_of xs) (onto x (words_of xs))
 
--- The words of what follows a word: a space begins it, unless it is empty.
-abbrev pub arguments_of : List ℕ → List (List ℕ)
-arguments_of [] = []
-arguments_of (x ∷ xs) = words_of xs
+-- The words of what is left of a line, where something is.
+abbrev pub words_left : Option (List ℕ) → List (List ℕ)
+words_left None = []
+words_left (Some xs) = words_of xs
 
 -- The first word, as it stands: what a line is called.
 abbrev pub first_word : List ℕ → List ℕ

@@ -6,4 +6,4 @@ mod numbers;
 mod text;
 
 pub use commands::{Command, Style, parse};
-pub use text::{cleaned, first_line, name};
+pub use text::{Lines, cleaned, name};

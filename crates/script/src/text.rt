@@ -1,111 +1,163 @@
 // Lines, comments, white space and words.
-ghost use Rattle.std.specs.Prelude.{◌≡◌, ℕ, ◌+◌, ◌-◌, ◌<◌, ◌≤◌, ◌∷◌, length, drop};
+ghost use Rattle.std.specs.Prelude.{◌≡◌, ℕ, ◌+◌, ◌<◌, ◌≤◌, List, length, IfSome, MatchOption, position, ◌==◌};
+ghost use Rattle.std.specs.List.{prefix_len, suffix_len};
+ghost use Rattle.std.specs.Option.{option_map};
+ghost use Rattle.std.specs.Str.{IsUtf8};
+ghost use Rattle.std.specs.Iterator.{YieldsFirstRef, at_most, item_count};
 ghost use Rattle.script.specs.Laws.{ScriptLaws, Examples};
-ghost use Rattle.script.specs.Text.{until, before, from, white, lines_of, trimmed_front, trimmed_end, cleaned_text, first_word, words_of, arguments_of};
+ghost use Rattle.script.specs.Text.{before, after, white, GivesLine, words_of, words_left, trimmed_front, trimmed_end, cleaned_text, first_word};
 
-const NEWLINE: u8 = 10;
+use std::marker::Model;
 
-pub(crate) const SPACE: u8 = 32;
+const NEWLINE: u8 = b'\n';
 
-const COMMENT: u8 = 35;
+const SPACE: u8 = b' ';
 
-// Where the first such byte stands, or the length.
-pub(crate) fn place(text: &[u8], byte: u8) -> usize
-    ensures is { result ≡ until byte text.now }
-    ensures within { result ≤ length text.now }
+const COMMENT: u8 = b'#';
+
+// Where the first such byte stands.
+fn place(text: &[u8], byte: u8) -> Option<usize>
+    ensures is { result ≡ position (λ x. x == byte) text.now }
+    ensures within { IfSome result (λ at. at < length text.now) }
 {
-    let mut n = 0;
-    while n < text.len() && text[n] != byte {
-        n += 1;
-    }
-    n
+    text.iter().position(|b| *b == byte)
 }
 
-// Whether a byte is white space.
+// What stands before the first such byte, and what follows it.
+fn cut(text: &[u8], byte: u8) -> (&[u8], Option<&[u8]>)
+    ensures before { result.0.now ≡ before byte text.now }
+    ensures after { option_map (λ x. x.now) result.1 ≡ after byte text.now }
+{
+    match place(text, byte) {
+        Some(at) => (&text[..at], Some(&text[at + 1..])),
+        None => (text, None),
+    }
+}
+
+// Whether a byte is white space. The library's `trim_ascii` leaves the vertical tab, byte 11, where it stands.
 fn is_white(byte: u8) -> bool
     ensures { result ≡ white byte }
 {
-    (byte >= 9 && byte <= 13) || byte == SPACE
+    matches!(byte, 9..=13 | SPACE)
 }
 
-// Without the white space at the front.
-fn trimmed_front(text: &[u8]) -> &[u8]
-    ensures { result.now ≡ trimmed_front text.now }
+// How many bytes of white space stand at the front.
+fn blanks_before(text: &[u8]) -> usize
+    ensures is { result ≡ prefix_len white text.now }
+    ensures within { result ≤ length text.now }
 {
-    let mut n = 0;
-    while n < text.len() && is_white(text[n]) {
-        n += 1;
-    }
-    &text[n..]
+    text.iter().take_while(|b| is_white(**b)).count()
 }
 
-// Without the white space at the end.
-fn trimmed_end(text: &[u8]) -> &[u8]
-    ensures { result.now ≡ trimmed_end text.now }
+// How many bytes of white space stand at the end.
+fn blanks_after(text: &[u8]) -> usize
+    ensures is { result ≡ suffix_len white text.now }
+    ensures within { result ≤ length text.now }
 {
-    let mut n = text.len();
-    while n > 0 && is_white(text[n - 1]) {
-        n -= 1;
-    }
-    &text[..n]
+    text.iter().rev().take_while(|b| is_white(**b)).count()
+}
+
+// Without the white space at the ends.
+fn trimmed(text: &[u8]) -> &[u8]
+    ensures { result.now ≡ trimmed_end (trimmed_front text.now) }
+{
+    let text = &text[blanks_before(text)..];
+    &text[..text.len() - blanks_after(text)]
 }
 
 /// A line without its comment and without white space at the ends.
 pub fn cleaned(line: &[u8]) -> &[u8]
     ensures { result.now ≡ cleaned_text line.now }
 {
-    let end = place(line, COMMENT);
-    trimmed_end(trimmed_front(&line[..end]))
+    let (text, _) = cut(line, COMMENT);
+    trimmed(text)
 }
 
 /// The first word of a line, as it stands.
 pub fn name(line: &[u8]) -> &[u8]
     ensures { result.now ≡ first_word line.now }
 {
-    let end = place(line, SPACE);
-    &line[..end]
+    cut(line, SPACE).0
 }
 
-// The bytes before the first line end, and those after it.
-fn split_line(script: &[u8]) -> (&[u8], &[u8])
-    ensures line { result.0.now ≡ before 10 script.now }
-    ensures rest { result.1.now ≡ drop (until 10 script.now + 1) script.now }
+// A word as text, if it is text at all.
+pub(crate) fn as_text(word: &[u8]) -> Option<&str>
+    ensures { MatchOption result (¬ (IsUtf8 word.now)) (λ text. text.now ≡ word.now) }
 {
-    let end = place(script, NEWLINE);
-    (&script[..end], after(script, end))
+    str::from_utf8(word).ok()
 }
 
-// The first line, and what follows it.
-fn line_and_rest(script: &[u8]) -> (&[u8], &[u8])
-    ensures lines { 0 < length script.now → lines_of script.now ≡ result.0.now ∷ lines_of result.1.now }
-    ensures line { result.0.now ≡ before 10 script.now }
-    ensures rest { result.1.now ≡ drop (until 10 script.now + 1) script.now }
-    ensures shorter { 0 < length script.now → length result.1.now < length script.now }
-    ensures laws { ScriptLaws }
-    ensures examples { Examples }
-{
-    split_line(script)
+/// What is left of a script, line by line: a line end ends each, and the last may lack it.
+#[derive(Drop)]
+pub struct Lines<'a> {
+    rest: &'a [u8],
 }
 
-/// The first line of a script, and what follows it. An empty script has no line.
-pub fn first_line(script: &[u8]) -> (&[u8], &[u8])
-    ensures lines { 0 < length script.now → lines_of script.now ≡ result.0.now ∷ lines_of result.1.now }
-    ensures line { result.0.now ≡ before 10 script.now }
-    ensures rest { result.1.now ≡ drop (until 10 script.now + 1) script.now }
-    ensures shorter { 0 < length script.now → length result.1.now < length script.now }
-    ensures laws { ScriptLaws }
-    ensures examples { Examples }
-{
-    line_and_rest(script)
+impl<'a> Model for Lines<'a> {
+    ghost Value = { List ℕ };
+
+    ghost view = { λ s. s.rest.now };
 }
 
-// What follows the byte at a place, if there is one.
-pub(crate) fn after(text: &[u8], at: usize) -> &[u8]
-    ensures { result.now ≡ drop (at + 1) text.now }
-{
-    if at < text.len() {
-        &text[at + 1..]
-    } else {
-        &[]
+impl<'a> Lines<'a> {
+    /// The lines of a script. An empty script has none.
+    pub fn of(script: &'a [u8]) -> Lines<'a>
+        ensures script { result ≡ script.now }
+        ensures laws { ScriptLaws }
+        ensures examples { Examples }
+    {
+        Lines { rest: script }
+    }
+}
+
+impl<'a> Iterator for Lines<'a> {
+    type Item = &'a [u8];
+
+    ghost next_gives = { GivesLine };
+
+    ghost remaining = { λ s. at_most (length s) };
+
+    fn next(&mut self) -> Option<&'a [u8]> {
+        if self.rest.is_empty() {
+            return None;
+        }
+        let (line, rest) = cut(self.rest, NEWLINE);
+        self.rest = rest.unwrap_or_default();
+        Some(line)
+    }
+}
+
+// The words of a line that are left: a space stands between each and the next.
+#[derive(Drop)]
+pub(crate) struct Words<'a> {
+    rest: Option<&'a [u8]>,
+}
+
+impl<'a> Model for Words<'a> {
+    ghost Value = { List (List ℕ) };
+
+    ghost view = { λ s. words_left (option_map (λ x. x.now) s.rest) };
+}
+
+impl<'a> Words<'a> {
+    // The words of a line.
+    pub(crate) fn of(line: &'a [u8]) -> Words<'a>
+        ensures { result ≡ words_of line.now }
+    {
+        Words { rest: Some(line) }
+    }
+}
+
+impl<'a> Iterator for Words<'a> {
+    type Item = &'a [u8];
+
+    ghost next_gives = { YieldsFirstRef (λ s. s) };
+
+    ghost remaining = { item_count (λ s. s) };
+
+    fn next(&mut self) -> Option<&'a [u8]> {
+        let (word, rest) = cut(self.rest?, SPACE);
+        self.rest = rest;
+        Some(word)
     }
 }

@@ -1,18 +1,16 @@
-use Rattle.std.proofs.Common.{◌≡◌, true, ap, ◌∙◌, rules}
-use Rattle.std.proofs.lemmas.List.{take_rest}
-use Rattle.std.proofs.lemmas.Bool.{and_from, eq-eqb}
-use Rattle.script.specs.Words.{in_base, at_most, is_hex, number_to}
+use Rattle.std.proofs.Common.{◌≡◌, true, false, sym, ◌∙◌, ap}
+use Rattle.script.specs.Words.{is_hex, in_base, at_most, number_to}
+use Rattle.script.proofs.Readings.{begins_hex}
 use Rattle.script.proofs.numbers.number.Goals as goal
 
-pub returns-then-word-eq120 : goal.returns-then-word-eq120
+pub returns-in-Some : goal.returns-in-Some
 unfolding number_to
-returns-then-word-eq120 c =
-    let word = c.args.word.now in
-    let hex : is_hex word ≡ true = and_from _ _ (eq-eqb _ _ c.if-word-eq48.true) (eq-eqb _ _ c.if-word-eq120.true) in record {
-      is = c.number_in.ensures.is ∙ ap (λ ds. at_most c.args.most (in_base 16 ds)) (take_rest word 2) ∙ simp hex;
-      small = c.number_in.ensures.small;
-    }
+returns-in-Some c =
+    let hex : is_hex c.args.word.now ≡ true = sym (begins_hex c.args.word.now) ∙ c.in-Some.ensures.cases.0 in
+    rw hex (c.number_in.ensures ∙ ap (λ ds. at_most _ (in_base 16 ds)) c.in-Some.ensures.cases.1)
 
-pub returns : goal.returns
+pub returns-in-None : goal.returns-in-None
 unfolding number_to
-returns c = search rules
+returns-in-None c =
+    let hex : is_hex c.args.word.now ≡ false = sym (begins_hex c.args.word.now) ∙ c.in-None.ensures.cases in
+    rw hex c.number_in-in-None.ensures

@@ -99,8 +99,8 @@ total-full rs k t e =
     let some : sum_rows 0 rs ≡ 0 → ⊥ = λ z. omega (arith, rows_none 0 rs z) in
     omega arith
 
-pub sum-laws : SumLaws
-sum-laws = record {
+pub sum_laws : SumLaws
+sum_laws = record {
   commutes = add_commutes;
   associates = add-associates;
   goes_on = rows_go_on;

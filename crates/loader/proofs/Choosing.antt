@@ -1,5 +1,5 @@
 -- What the loader's choice means. Assumes nothing.
-use Rattle.std.proofs.Common.{◌≡◌, ℕ, zero, suc, ◌+◌, ◌<◌, ◌≤◌, Bool, true, false, cond, not, ◌&&◌, eqb, List, [], ◌∷◌, length, get_or, Some, None, Ok, Err, Decides, Option, sym, refl, ap, subst, inl, inr, arith}
+use Rattle.std.proofs.Common.{◌≡◌, ℕ, zero, suc, ◌+◌, ◌<◌, ◌≤◌, Bool, true, false, cond, not, ◌&&◌, eqb, List, [], ◌∷◌, length, get_or, Some, None, Ok, Err, Decides, Option, refl, ap, subst, inl, inr, arith, length-take, length-drop}
 use Rattle.std.proofs.lemmas.Bool.{false≢true, and_parts, and_from, not-true, not_from_false, eqb-true, eqb-false, eq-eqb, ne_eqb}
 use Rattle.std.proofs.lemmas.Bool.Decides.{not_from_Decides}
 use Rattle.base.specs.declared.Case.TheVariants.{BadShape, PowerOff}
@@ -7,9 +7,10 @@ use Rattle.base.specs.declared.Layer.TheVariants.{Memory, Loader}
 use Rattle.base.specs.declared.Fault.{Fault}
 use Rattle.base.specs.Faults.{fault_at, fault}
 use Rattle.memory.specs.Model.{Row, written, blank, spoilt, Held}
+use Rattle.loader.specs.declared.Slot.TheVariants.{First, Second}
+use Rattle.loader.specs.declared.Image.{Image}
 use Rattle.loader.specs.Image.{sum_rows, is_written, all_written, version, whole, rows_of_slot, Standing, standing, shaped, answered, loading}
 use Rattle.loader.specs.Laws.{WholeImage, Stands, StandingLaws}
-use Rattle.loader.proofs.Slots.{slot-length}
 
 written_at : (rs : List Row) (i : ℕ) → i < length rs → all_written rs ≡ true → (bs : List ℕ) × (get_or rs i blank ≡ written bs)
 written_at [] i below e = absurd (omega arith)
@@ -43,16 +44,16 @@ not_whole rs = not_from_Decides (whole rs) (whole_tells rs)
 -- The choice between two slots of l rows, by whether each is whole.
 module _ (l : ℕ) (rows : List Row) where
   abbrev one : Standing
-  one = record { slot = 1; image = rows_of_slot l 0 rows }
+  one = record { slot = First; image = rows_of_slot l 0 rows }
 
   abbrev two : Standing
-  two = record { slot = 2; image = rows_of_slot l l rows }
+  two = record { slot = Second; image = rows_of_slot l l rows }
 
   abbrev choice : Bool → Bool → Option Standing
   choice x y = cond x (Some one) (cond y (Some two) None)
 
   slot-size : (f : ℕ) → f + l ≤ length rows → length (rows_of_slot l f rows) ≡ l
-  slot-size f = slot-length (record { rows = rows; power = true }) f l
+  slot-size f within = simp (length-take, length-drop) (omega arith)
 
   one-stands : whole one.image ≡ true → Stands l rows one
   one-stands e = record { image = (whole_tells one.image).0 e; place = inl (refl, refl); size = λ fit. slot-size 0 (omega arith) }
@@ -63,11 +64,11 @@ module _ (l : ℕ) (rows : List Row) where
   chosen : (x y : Bool) → whole one.image ≡ x → whole two.image ≡ y → (s : Standing) → choice x y ≡ Some s → Stands l rows s
   chosen true y p q s e = let same : one ≡ s = cc in subst (Stands l rows) same (one-stands p)
   chosen false true p q s e = let same : two ≡ s = cc in subst (Stands l rows) same (two-stands p q)
-  chosen false false p q s e = let z : ◌≡◌ {A = ℕ} 0 1 = cc in absurd (omega arith)
+  chosen false false p q s e = cc
 
   refused : (x y : Bool) → whole one.image ≡ x → whole two.image ≡ y → choice x y ≡ None → (WholeImage one.image → ⊥) × (WholeImage two.image → ⊥)
-  refused true y p q e = let z : ◌≡◌ {A = ℕ} 0 1 = cc in absurd (omega arith)
-  refused false true p q e = let z : ◌≡◌ {A = ℕ} 0 1 = cc in absurd (omega arith)
+  refused true y p q e = cc
+  refused false true p q e = cc
   refused false false p q e = (not_whole one.image p, not_whole two.image q)
 
   pub standing-stands : (s : Standing) → standing l rows ≡ Some s → Stands l rows s
@@ -77,17 +78,15 @@ module _ (l : ℕ) (rows : List Row) where
   standing-none e = refused (whole one.image) (whole two.image) refl refl e
 
 -- Only what stands is answered, where shape and power let it.
-only-standing : (p q : Bool) (o : Option Standing) (f g : Fault) (slot number : ℕ) → cond p (cond q (answered o) (Err f)) (Err g) ≡ Ok (slot, number) → (s : Standing) × (o ≡ Some s) × (slot ≡ s.slot) × (number ≡ version s.image)
-only-standing true true (Some s) f g slot number e =
-    let same : ◌≡◌ {A = ℕ × ℕ} (s.slot, version s.image) (slot, number) = cc in
-    (s, refl, sym (ap (λ (r : ℕ × ℕ). r.0) same), sym (ap (λ (r : ℕ × ℕ). r.1) same))
-only-standing true true None f g slot number e = let z : ◌≡◌ {A = ℕ} 0 1 = cc in absurd (omega arith)
-only-standing true false o f g slot number e = let z : ◌≡◌ {A = ℕ} 0 1 = cc in absurd (omega arith)
-only-standing false q o f g slot number e = let z : ◌≡◌ {A = ℕ} 0 1 = cc in absurd (omega arith)
+only-standing : (p q : Bool) (o : Option Standing) (f g : Fault) (i : Image) → cond p (cond q (answered o) (Err f)) (Err g) ≡ Ok i → (s : Standing) × (o ≡ Some s) × (i.slot ≡ s.slot) × (i.version ≡ version s.image)
+only-standing true true (Some s) f g i e = (s, refl, cc, cc)
+only-standing true true None f g i e = cc
+only-standing true false o f g i e = cc
+only-standing false q o f g i e = cc
 
-pub loading-stands : (h : Held) (l slot number : ℕ) → loading h l ≡ Ok (slot, number) → (s : Standing) × (standing l h.rows ≡ Some s) × (slot ≡ s.slot) × (number ≡ version s.image)
+pub loading-stands : (h : Held) (l : ℕ) (i : Image) → loading h l ≡ Ok i → (s : Standing) × (standing l h.rows ≡ Some s) × (i.slot ≡ s.slot) × (i.version ≡ version s.image)
 unfolding loading
-loading-stands h l slot number e = only-standing (shaped l (length h.rows)) h.power (standing l h.rows) (fault_at PowerOff Memory 0) (fault BadShape Loader) slot number e
+loading-stands h l i e = only-standing (shaped l (length h.rows)) h.power (standing l h.rows) (fault_at PowerOff Memory 0) (fault BadShape Loader) i e
 
-pub standing-laws : StandingLaws
-standing-laws = record { whole = whole_tells; stands = standing-stands; none = standing-none; loads = loading-stands }
+pub standing_laws : StandingLaws
+standing_laws = record { whole = whole_tells; stands = standing-stands; none = standing-none; loads = loading-stands }

@@ -1,7 +1,9 @@
 -- What the loader's choice means. Assumes nothing.
-use Rattle.std.proofs.Common.{◌≡◌, ℕ, zero, suc, ◌+◌, ◌<◌, ◌≤◌, Bool, true, false, cond, not, ◌&&◌, eqb, List, [], ◌∷◌, length, get_or, Some, None, Ok, Err, Decides, Option, refl, ap, subst, inl, inr, arith, length-take, length-drop}
-use Rattle.std.proofs.lemmas.Bool.{false≢true, and_parts, and_from, not-true, not_from_false, eqb-true, eqb-false, eq-eqb, ne_eqb}
-use Rattle.std.proofs.lemmas.Bool.Decides.{not_from_Decides}
+use Rattle.std.proofs.Common.{◌≡◌, ℕ, ◌+◌, ◌≤◌, Bool, true, false, cond, not, List, length, Some, None, Ok, Err, Decides, Option, refl, subst, inl, inr, arith, length-take, length-drop}
+use Rattle.std.proofs.lemmas.Bool.{false≢true}
+use Rattle.std.proofs.lemmas.Bool.Decides.{Decides-eqb, Decides-not, Decides-and, Decides-by_and, not_from_Decides}
+use Rattle.std.proofs.lemmas.List.Elements.{All-get_or, All-from_get_or}
+use Rattle.std.specs.Prelude.{All, ◌==◌, ◌≢◌}
 use Rattle.base.specs.declared.Case.TheVariants.{BadShape, PowerOff}
 use Rattle.base.specs.declared.Layer.TheVariants.{Memory, Loader}
 use Rattle.base.specs.declared.Fault.{Fault}
@@ -9,34 +11,26 @@ use Rattle.base.specs.Faults.{fault_at, fault}
 use Rattle.memory.specs.Model.{Row, written, blank, spoilt, Held}
 use Rattle.loader.specs.declared.Slot.TheVariants.{First, Second}
 use Rattle.loader.specs.declared.Image.{Image}
-use Rattle.loader.specs.Image.{sum_rows, is_written, all_written, version, whole, rows_of_slot, Standing, standing, shaped, answered, loading}
+use Rattle.loader.specs.Image.{sum_rows, is_written, all_written, version, whole_by, whole, rows_of_slot, Standing, standing, shaped, answered, loading}
 use Rattle.loader.specs.Laws.{WholeImage, Stands, StandingLaws}
 
-written_at : (rs : List Row) (i : ℕ) → i < length rs → all_written rs ≡ true → (bs : List ℕ) × (get_or rs i blank ≡ written bs)
-written_at [] i below e = absurd (omega arith)
-written_at (written bs ∷ rs) zero below e = (bs, refl)
-written_at (written bs ∷ rs) (suc i) below e = written_at rs i (omega arith) e
-written_at (blank ∷ rs) i below e = absurd (false≢true e)
-written_at (spoilt ∷ rs) i below e = absurd (false≢true e)
+abbrev IsWritten : Row → Type 0
+IsWritten r = (bs : List ℕ) × (r ≡ written bs)
 
-written_all : (rs : List Row) → ((i : ℕ) → i < length rs → (bs : List ℕ) × (get_or rs i blank ≡ written bs)) → all_written rs ≡ true
-written_all [] h = refl
-written_all (r ∷ rs) h = and_from (is_written r) (all_written rs) (ap is_written (h 0 (omega arith)).1) (written_all rs (λ i below. h (suc i) (omega arith)))
+written_tells : (r : Row) → Decides (is_written r) (IsWritten r)
+written_tells (written bs) = (λ _. (bs, refl), λ _. refl)
+written_tells blank = (λ e. absurd (false≢true e), λ w. let e : blank ≡ written w.0 = w.1 in cc)
+written_tells spoilt = (λ e. absurd (false≢true e), λ w. let e : spoilt ≡ written w.0 = w.1 in cc)
 
 pub whole_tells : (rs : List Row) → Decides (whole rs) (WholeImage rs)
-whole_tells rs = (
-  λ e.
-      let a = and_parts (all_written rs) (not (eqb (version rs) 0) && eqb (sum_rows 0 rs) 65535) e in
-      let b = and_parts (not (eqb (version rs) 0)) (eqb (sum_rows 0 rs) 65535) a.1 in
-      record {
-        rows = λ i below. written_at rs i below a.0;
-        numbered = eqb-false (version rs) 0 (not-true (eqb (version rs) 0) b.0);
-        sum = eqb-true (sum_rows 0 rs) 65535 b.1;
-      },
-  λ w.
-      and_from (all_written rs) (not (eqb (version rs) 0) && eqb (sum_rows 0 rs) 65535) (written_all rs w.rows)
-      (and_from (not (eqb (version rs) 0)) (eqb (sum_rows 0 rs) 65535) (not_from_false (eqb (version rs) 0) (ne_eqb (version rs) 0 w.numbered)) (eq-eqb (sum_rows 0 rs) 65535 w.sum)),
-)
+whole_tells rs =
+    let rows : Decides (all_written rs) (All IsWritten rs) = Decides-by_and is_written IsWritten all_written written_tells refl (λ _ _. refl) rs in
+    let numbered : Decides (not (version rs == 0)) (version rs ≢ 0) = Decides-not _ (Decides-eqb (version rs) 0) in
+    let by : Decides (whole_by (version rs) (sum_rows 0 rs)) ((version rs ≢ 0) × (sum_rows 0 rs ≡ 65535)) = Decides-and _ _ numbered (Decides-eqb (sum_rows 0 rs) 65535) in
+    let both : Decides (whole rs) (All IsWritten rs × ((version rs ≢ 0) × (sum_rows 0 rs ≡ 65535))) = Decides-and _ _ rows by in (
+      λ e. let w = both.0 e in record { rows = λ i below. All-get_or IsWritten rs i blank below w.0; numbered = w.1.0; sum = w.1.1 },
+      λ w. both.1 (All-from_get_or IsWritten rs blank w.rows, (w.numbered, w.sum)),
+    )
 
 not_whole : (rs : List Row) → whole rs ≡ false → WholeImage rs → ⊥
 not_whole rs = not_from_Decides (whole rs) (whole_tells rs)

@@ -1,5 +1,6 @@
 -- What an image is, and which of two the loader takes. Assumes nothing.
 use Rattle.std.specs.Prelude.{ℕ, ◌+◌, ◌-◌, ◌*◌, Bool, true, false, cond, not, ◌&&◌, List, [], ◌∷◌, length, take, drop, Some, None, Ok, Err, Option, Result, ◌==◌, nat_le, nat_lt, slice_index_or}
+use Rattle.std.specs.List.{fold, list_all}
 use Rattle.base.specs.declared.Case.TheVariants.{BadShape, PowerOff, NoImage}
 use Rattle.base.specs.declared.Layer.TheVariants.{Memory, Loader}
 use Rattle.base.specs.declared.Fault.{Fault}
@@ -27,8 +28,7 @@ sum_bytes a (x ∷ y ∷ bs) = sum_bytes (add16 a (x * 256 + y)) bs
 
 -- The words of some rows, added to a.
 abbrev pub sum_rows : ℕ → List Row → ℕ
-sum_rows a [] = a
-sum_rows a (r ∷ rs) = sum_rows (sum_bytes a (shown_of r)) rs
+sum_rows a rs = fold (λ s r. sum_bytes s (shown_of r)) a rs
 
 abbrev pub is_written : Row → Bool
 is_written (written bs) = true
@@ -36,8 +36,7 @@ is_written blank = false
 is_written spoilt = false
 
 abbrev pub all_written : List Row → Bool
-all_written [] = true
-all_written (r ∷ rs) = is_written r && all_written rs
+all_written rs = list_all is_written rs
 
 -- An image's version: the number in the first eight bytes of its first row.
 abbrev pub version : List Row → ℕ

@@ -41,9 +41,7 @@ impl Numbers {
 }
 
 /// On how many texts a tagger and separate code agree.
-pub(crate) fn agreeing<T: Tagger, P>(tagger: &T, peer: P) -> usize
-where
-    P: Fn(&[u8; 16], &[u8]) -> [u8; 8],
+pub(crate) fn agreeing<T: Tagger, P: Fn(&[u8; 16], &[u8]) -> [u8; 8]>(tagger: &T, peer: P) -> usize
     requires { P.IsAlwaysCallable peer }
 {
     let mut numbers = Numbers {

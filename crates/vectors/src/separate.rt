@@ -184,30 +184,8 @@ fn next_key(key: &[u8; 16], constant: u8) -> [u8; 16] {
 
 // The columns of a state with its bytes replaced and its rows shifted.
 fn shifted(state: &[u8; 16]) -> [[u8; 4]; 4] {
-    let [
-        a0,
-        a1,
-        a2,
-        a3,
-        b0,
-        b1,
-        b2,
-        b3,
-        c0,
-        c1,
-        c2,
-        c3,
-        d0,
-        d1,
-        d2,
-        d3,
-    ] = state.map(sub);
-    [
-        [a0, b1, c2, d3],
-        [b0, c1, d2, a3],
-        [c0, d1, a2, b3],
-        [d0, a1, b2, c3],
-    ]
+    let [a, b, c, d, e, f, g, h, i, j, k, l, m, n, o, p] = state.map(sub);
+    [[a, f, k, p], [e, j, o, d], [i, n, c, h], [m, b, g, l]]
 }
 
 // A column times the matrix that mixes it.

@@ -1,7 +1,8 @@
 -- The sum of words and of rows: order, and bounds. Assumes nothing.
-use Rattle.std.proofs.Common.{◌≡◌, ℕ, ◌+◌, ◌-◌, ◌*◌, ◌<◌, cond, ltb, List, [], ◌∷◌, ◌++◌, sym, refl, ap, ◌∙◌, add_comm, arith}
+use Rattle.std.proofs.Common.{◌≡◌, ℕ, ◌+◌, ◌-◌, ◌*◌, ◌<◌, cond, ltb, List, [], ◌∷◌, sym, refl, ap, ◌∙◌, add_comm, arith}
 use Rattle.std.proofs.lemmas.Bool.{cond_both, ltb-true, ltb-false}
 use Rattle.std.proofs.lemmas.Bool.Decides.{nat_tests}
+use Rattle.std.proofs.lemmas.List.Sums.{fold-append}
 use Rattle.std.specs.List.{AllByRecursion}
 use Rattle.memory.specs.Model.{Row, shown_of}
 use Rattle.loader.specs.Image.{add16, sum_bytes, sum_rows}
@@ -42,10 +43,6 @@ rows_swap a xs (x ∷ []) la s t = refl
 rows_swap a xs (x ∷ y ∷ ys) la s t =
     let v : x * 256 + y < 65536 = word_below x y t.0 t.1.0 in
     ap (λ n. sum_bytes n ys) (word_first a (x * 256 + y) xs la v s) ∙ rows_swap (add16 a (x * 256 + y)) xs ys (add-below a (x * 256 + y) la v) s t.1.1
-
-pub rows_go_on : (a : ℕ) (xs ys : List Row) → sum_rows a (xs ++ ys) ≡ sum_rows (sum_rows a xs) ys
-rows_go_on a [] ys = refl
-rows_go_on a (x ∷ xs) ys = rows_go_on (sum_bytes a (shown_of x)) xs ys
 
 pub rows-below : (a : ℕ) (rs : List Row) → a < 65536 → AllByRecursion OfBytes rs → sum_rows a rs < 65536
 rows-below a [] la t = la
@@ -99,11 +96,11 @@ total-full rs k t e =
     let some : sum_rows 0 rs ≡ 0 → ⊥ = λ z. omega (arith, rows_none 0 rs z) in
     omega arith
 
-pub sum-laws : SumLaws
-sum-laws = record {
+pub sum_laws : SumLaws
+sum_laws = record {
   commutes = add_commutes;
   associates = add-associates;
-  goes_on = rows_go_on;
+  goes_on = fold-append (λ s r. sum_bytes s (shown_of r));
   any_order = λ a x y rs la s t. ap (λ n. sum_rows n rs) (rows_swap a (shown_of x) (shown_of y) la s t);
   fits = rows-below;
   carries = rows_carry;

@@ -1,4 +1,4 @@
 pub mod Sums
-pub mod Slots
+pub mod SlotRows
 pub mod Adding
 pub mod Choosing

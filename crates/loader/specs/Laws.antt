@@ -2,6 +2,8 @@
 use Rattle.std.specs.Prelude.{◌≡◌, ℕ, ◌+◌, ◌*◌, ◌<◌, ◌≤◌, ◌≢◌, ◌⊎◌, List, [], ◌∷◌, ◌++◌, length, Some, None, Ok, Decides, slice_index_or}
 use Rattle.std.specs.List.{AllByRecursion}
 use Rattle.memory.specs.Model.{Row, written, blank, Held, shown_of}
+use Rattle.loader.specs.declared.Slot.TheVariants.{First, Second}
+use Rattle.loader.specs.declared.Image.{Image}
 use Rattle.loader.specs.Image.{add16, sum_rows, version, whole, rows_of_slot, Standing, standing, loading}
 
 -- A row that holds bytes.
@@ -43,8 +45,8 @@ pub record WholeImage (rs : List Row) : Type 0 where
 -- What it is that an image stands in a memory with slots of l rows.
 pub record Stands (l : ℕ) (rows : List Row) (s : Standing) : Type 0 where
   pub image : WholeImage s.image
-  -- it is slot 1's, or slot 2's where slot 1 is not whole
-  pub place : ((s.slot ≡ 1) × (s.image ≡ rows_of_slot l 0 rows)) ⊎ ((s.slot ≡ 2) × (s.image ≡ rows_of_slot l l rows) × (WholeImage (rows_of_slot l 0 rows) → ⊥))
+  -- it is the first slot's, or the second's where the first is not whole
+  pub place : ((s.slot ≡ First) × (s.image ≡ rows_of_slot l 0 rows)) ⊎ ((s.slot ≡ Second) × (s.image ≡ rows_of_slot l l rows) × (WholeImage (rows_of_slot l 0 rows) → ⊥))
   -- it has as many rows as a slot
   pub size : 2 * l ≤ length rows → length s.image ≡ l
 
@@ -55,4 +57,4 @@ pub record StandingLaws : Type 0 where
   -- where none stands, neither slot is whole
   pub none : (l : ℕ) (rows : List Row) → standing l rows ≡ None → (WholeImage (rows_of_slot l 0 rows) → ⊥) × (WholeImage (rows_of_slot l l rows) → ⊥)
   -- what the loader answers stands, with that version
-  pub loads : (h : Held) (l slot number : ℕ) → loading h l ≡ Ok (slot, number) → (s : Standing) × (standing l h.rows ≡ Some s) × (slot ≡ s.slot) × (number ≡ version s.image)
+  pub loads : (h : Held) (l : ℕ) (i : Image) → loading h l ≡ Ok i → (s : Standing) × (standing l h.rows ≡ Some s) × (i.slot ≡ s.slot) × (i.version ≡ version s.image)

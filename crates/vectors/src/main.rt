@@ -6,37 +6,30 @@ mod compare;
 mod published;
 mod separate;
 
-use aes::{Cmac, Subkeys, encrypt_block, generate_subkeys};
+use aes::{Cmac, encrypt_block, generate_subkeys};
 use base::WORK_BYTES;
-use compare::{COMPARED, SeparateCmac, SeparateSip, agreeing, gives};
+use compare::{COMPARED, agreeing, gives};
+use separate::{cmac, encrypt, siphash, subkeys};
 use std::io;
 use tagging::SipHash;
 
 // How many hold.
-fn holding(all: &[bool]) -> u32 {
-    let mut count: u32 = 0;
-    for holds in all {
-        if *holds {
-            count = count.saturating_add(1);
-        }
-    }
-    count
+fn holding(all: &[bool]) -> usize {
+    all.iter().filter(|holds| **holds).count()
 }
 
 // Whether a block becomes another under a key.
 fn becomes(key: &[u8; 16], block: &[u8; 16], wanted: &[u8; 16]) -> bool {
     let mut work = [255; WORK_BYTES];
     let mut ours = *block;
-    match encrypt_block(key, &mut ours, &mut work) {
-        Ok(()) => ours == *wanted
-            && separate::encrypt(key, block) == *wanted
-            && work == [0; WORK_BYTES],
-        Err(_) => false,
-    }
+    encrypt_block(key, &mut ours, &mut work).is_ok()
+        && ours == *wanted
+        && encrypt(key, block) == *wanted
+        && work == [0; WORK_BYTES]
 }
 
 // FIPS 197, appendices B and C.1.
-fn blocks() -> u32 {
+fn blocks() -> usize {
     holding(&[
         becomes(&published::KEY, &published::B_BLOCK, &published::B_RESULT),
         becomes(
@@ -48,33 +41,34 @@ fn blocks() -> u32 {
 }
 
 // RFC 4493: the block of zeros, and the subkeys.
-fn keys() -> u32 {
+fn keys() -> usize {
     let mut work = [255; WORK_BYTES];
-    let ours = match generate_subkeys(&published::KEY, &mut work) {
-        Ok(both) => both,
-        Err(_) => Subkeys {
-            first: [0; 16],
-            second: [0; 16],
-        },
-    };
+    let ours = generate_subkeys(&published::KEY, &mut work).ok();
     let clean = work == [0; WORK_BYTES];
-    let (one, two) = separate::subkeys(&published::KEY);
+    let (one, two) = subkeys(&published::KEY);
     holding(&[
         becomes(&published::KEY, &[0; 16], &published::ZERO_RESULT),
-        clean && ours.first == published::SUBKEY_1 && one == published::SUBKEY_1,
-        clean && ours.second == published::SUBKEY_2 && two == published::SUBKEY_2,
+        clean
+            && ours.is_some_and(|both| both.first == published::SUBKEY_1)
+            && one == published::SUBKEY_1,
+        clean
+            && ours.is_some_and(|both| both.second == published::SUBKEY_2)
+            && two == published::SUBKEY_2,
     ])
+}
+
+// The first eight bytes of what AES-128-CMAC gives, which are a tag.
+fn front([a, b, c, d, e, f, g, h, ..]: [u8; 16]) -> [u8; 8] {
+    [a, b, c, d, e, f, g, h]
 }
 
 // Whether a text has a tag, of which the product gives the first eight bytes.
 fn tagged(text: &[u8], mac: &[u8; 16]) -> bool {
-    let [a, b, c, d, e, f, g, h, ..] = *mac;
-    gives(&Cmac, &published::KEY, text, &[a, b, c, d, e, f, g, h])
-        && separate::cmac(&published::KEY, text) == *mac
+    gives(&Cmac, &published::KEY, text, &front(*mac)) && cmac(&published::KEY, text) == *mac
 }
 
 // RFC 4493: the four texts.
-fn macs() -> u32 {
+fn macs() -> usize {
     holding(&[
         tagged(&published::MESSAGE[..0], &published::MAC_0),
         tagged(&published::MESSAGE[..16], &published::MAC_16),
@@ -86,18 +80,16 @@ fn macs() -> u32 {
 // Whether the first bytes from 0 on have a tag.
 fn hashed(text: &[u8], tag: &[u8; 8]) -> bool {
     gives(&SipHash, &published::RISING_KEY, text, tag)
-        && separate::siphash(&published::RISING_KEY, text) == *tag
+        && siphash(&published::RISING_KEY, text) == *tag
 }
 
 // The table of SipHash's reference code.
-fn table() -> u32 {
-    let mut count: u32 = 0;
-    for len in 0..64usize {
-        if hashed(&published::RISING[..len], &published::SIP_TABLE[len]) {
-            count = count.saturating_add(1);
-        }
-    }
-    count
+fn table() -> usize {
+    published::SIP_TABLE
+        .iter()
+        .enumerate()
+        .filter(|(len, tag)| hashed(&published::RISING[..*len], tag))
+        .count()
 }
 
 fn main(rt: HostRuntime) -> io::Result<()> {
@@ -109,12 +101,12 @@ fn main(rt: HostRuntime) -> io::Result<()> {
     println!(rt; "siphash, table: {} of 64", table())?;
     println!(rt;
         "siphash, separate code: {} of {}",
-        agreeing(&SipHash, &SeparateSip),
+        agreeing(&SipHash, siphash),
         COMPARED
     )?;
     println!(rt;
         "cmac, separate code: {} of {}",
-        agreeing(&Cmac, &SeparateCmac),
+        agreeing(&Cmac, |key, text| front(cmac(key, text))),
         COMPARED
     )
 }

@@ -1,6 +1,7 @@
 // The messages between a server and a terminal: their kinds, reading and writing them.
 #![tactic(auto)]
 
+mod fields;
 mod kind;
 mod message;
 mod reading;

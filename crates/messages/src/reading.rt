@@ -3,48 +3,52 @@ ghost use Rattle.std.specs.Prelude.{◌≡◌, suc, cond, length, None, Some, �
 ghost use Rattle.std.specs.Option.{option_map};
 ghost use Rattle.messages.specs.Kinds.{about};
 ghost use Rattle.messages.specs.Wire.{meant, said_by};
-ghost use Rattle.messages.specs.Codec.{told, reading};
+ghost use Rattle.messages.specs.Codec.{told, reading_as, reading};
 ghost use Rattle.messages.specs.Trips.{WritesBack, RoundTrips};
 
+use crate::fields::{as_tag, first_u64};
 use crate::kind::{End, Kind};
 use crate::message::Message;
 use crate::status::Status;
-use base::{Case, Fault, Layer, ROW_BYTES, TAG_BYTES};
-
-// What a tag alone is.
-fn tag(rest: &[u8]) -> Option<[u8; TAG_BYTES]>
-    ensures { result ≡ cond (length rest.now == 8) (Some rest.now) None }
-{
-    rest.as_array::<TAG_BYTES>().copied()
-}
+use base::{Case, Fault, Layer, ROW_BYTES};
 
 // What a message of a kind says by the bytes after its first, if they are as many as its kind has.
 fn parse(kind: Kind, rest: &[u8]) -> Option<Message>
     ensures { option_map meant result ≡ cond (suc (length rest.now) == (about kind).bytes) (Some (said_by kind rest.now)) None }
 {
     match kind {
-        Kind::GetStatus => Some(Status::parse(rest)?.asked()),
-        Kind::RespondStatus => Some(Status::parse(rest)?.told()),
-        Kind::Update => Some(Message::Update { tag: tag(rest)? }),
-        Kind::Reset => Some(Message::Reset { tag: tag(rest)? }),
+        Kind::GetStatus => Some(Status::parse(rest)?.into_get_status()),
+        Kind::RespondStatus => Some(Status::parse(rest)?.into_respond_status()),
+        Kind::Update => Some(Message::Update { tag: as_tag(rest)? }),
+        Kind::Reset => Some(Message::Reset { tag: as_tag(rest)? }),
         Kind::Row => Some(Message::Row {
             row: rest.as_array::<ROW_BYTES>()?,
         }),
         Kind::Close => {
-            let (version, rest) = rest.split_first_chunk::<8>()?;
+            let (version, rest) = first_u64(rest)?;
             Some(Message::Close {
-                version: u64::from_be_bytes(*version),
-                tag: tag(rest)?,
+                version,
+                tag: as_tag(rest)?,
             })
         }
-        Kind::UpdateConfirm => Some(Message::UpdateConfirm { tag: tag(rest)? }),
-        Kind::UpdateFail => Some(Message::UpdateFail { tag: tag(rest)? }),
-        Kind::ResetConfirm => Some(Message::ResetConfirm { tag: tag(rest)? }),
+        Kind::UpdateConfirm => Some(Message::UpdateConfirm { tag: as_tag(rest)? }),
+        Kind::UpdateFail => Some(Message::UpdateFail { tag: as_tag(rest)? }),
+        Kind::ResetConfirm => Some(Message::ResetConfirm { tag: as_tag(rest)? }),
         Kind::Abort => match rest {
             [] => Some(Message::Abort),
             _ => None,
         },
     }
+}
+
+// Reads a message of a kind at an end, by the bytes after its first.
+fn read_as(end: End, kind: Kind, rest: &[u8]) -> Result<Message, Fault>
+    ensures { told result ≡ reading_as end (Some kind) rest.now }
+{
+    if end != kind.reader() {
+        return Err(Fault::new(Case::WrongEnd, end.layer()));
+    }
+    parse(kind, rest).ok_or(Fault::new(Case::BadLength, Layer::Common))
 }
 
 /// Reads a message at an end. Refused as `Empty` is a message of no byte, as `NoKind` one whose first
@@ -60,8 +64,5 @@ pub fn read(end: End, message: &[u8]) -> Result<Message, Fault>
         return Err(Fault::new(Case::Empty, Layer::Common));
     };
     let kind = Kind::try_from(*first).map_err(|case| Fault::new(case, Layer::Common))?;
-    if end != kind.reader() {
-        return Err(Fault::new(Case::WrongEnd, end.layer()));
-    }
-    parse(kind, rest).ok_or(Fault::new(Case::BadLength, Layer::Common))
+    read_as(end, kind, rest)
 }

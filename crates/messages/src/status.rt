@@ -4,6 +4,7 @@ ghost use Rattle.messages.specs.Wire.{meant, get_status, respond_status, status}
 ghost use Rattle.messages.specs.Trips.{WholeStatus};
 ghost use Rattle.messages.specs.Fields.{status_in};
 
+use crate::fields::{as_tag, first_u64};
 use crate::message::Message;
 use base::{IDENTITY_BYTES, TAG_BYTES};
 
@@ -23,22 +24,22 @@ impl Status {
     pub(crate) fn parse(rest: &[u8]) -> Option<Status>
         ensures { result ≡ status_in rest.now }
     {
-        let (version, rest) = rest.split_first_chunk::<8>()?;
+        let (version, rest) = first_u64(rest)?;
         let (identity, rest) = rest.split_first_chunk::<IDENTITY_BYTES>()?;
         let (count, rest) = rest.split_first_chunk::<4>()?;
-        let (other, rest) = rest.split_first_chunk::<8>()?;
-        let tag = rest.as_array::<TAG_BYTES>()?;
+        let (other, rest) = first_u64(rest)?;
+        let tag = as_tag(rest)?;
         Some(Status {
-            version: u64::from_be_bytes(*version),
+            version,
             identity: *identity,
             count: u32::from_be_bytes(*count),
-            other: u64::from_be_bytes(*other),
-            tag: *tag,
+            other,
+            tag,
         })
     }
 
     // The fields as those of a request for the status.
-    pub(crate) fn asked<'a>(self) -> Message<'a>
+    pub(crate) fn into_get_status<'a>(self) -> Message<'a>
         ensures { meant result ≡ get_status self.version self.identity self.count self.other self.tag }
     {
         let Status {
@@ -58,7 +59,7 @@ impl Status {
     }
 
     // The fields as those of a status.
-    pub(crate) fn told<'a>(self) -> Message<'a>
+    pub(crate) fn into_respond_status<'a>(self) -> Message<'a>
         ensures { meant result ≡ respond_status self.version self.identity self.count self.other self.tag }
     {
         let Status {
@@ -84,14 +85,21 @@ impl Status {
         ensures fields { rest.new ≡ status self.version self.identity self.count self.other self.tag }
         ensures whole { WholeStatus self.version self.identity self.count self.other self.tag }
     {
-        let (version, rest) = rest.split_first_chunk_mut::<8>().unwrap();
-        *version = self.version.to_be_bytes();
-        let (identity, rest) = rest.split_first_chunk_mut::<IDENTITY_BYTES>().unwrap();
-        *identity = self.identity;
-        let (count, rest) = rest.split_first_chunk_mut::<4>().unwrap();
-        *count = self.count.to_be_bytes();
-        let (other, rest) = rest.split_first_chunk_mut::<8>().unwrap();
-        *other = self.other.to_be_bytes();
-        rest.copy_from_slice(&self.tag);
+        let Status {
+            version,
+            identity,
+            count,
+            other,
+            tag,
+        } = self;
+        let (place, rest) = rest.split_first_chunk_mut::<8>().unwrap();
+        *place = version.to_be_bytes();
+        let (place, rest) = rest.split_first_chunk_mut::<IDENTITY_BYTES>().unwrap();
+        *place = identity;
+        let (place, rest) = rest.split_first_chunk_mut::<4>().unwrap();
+        *place = count.to_be_bytes();
+        let (place, rest) = rest.split_first_chunk_mut::<8>().unwrap();
+        *place = other.to_be_bytes();
+        rest.copy_from_slice(&tag);
     }
 }

@@ -6,5 +6,5 @@ use Rattle.messages.proofs.reading.read.Goals as goal
 
 pub returns-clause-back : goal.returns-clause-back
 returns-clause-back c =
-    let answer : told c.ok_or.result ≡ reading c.args.end c.args.message.now = grind (arith, common_steps) in
+    let answer : told c.read_as.result ≡ reading c.args.end c.args.message.now = grind (arith, common_steps) in
     writes_back c.args.end c.args.message.now _ c.type_inv.message answer

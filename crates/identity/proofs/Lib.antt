@@ -1,1 +1,2 @@
 pub mod Plated
+pub mod Chipped

@@ -1,7 +1,8 @@
 -- How a text is filled up to a plate, and found again. Assumes nothing.
-use Rattle.std.proofs.Common.{◌≡◌, ℕ, zero, suc, ◌+◌, ◌-◌, ◌<◌, ◌≤◌, Bool, true, false, cond, not, ◌&&◌, eqb, ltb, leb, List, [], ◌∷◌, ◌++◌, length, get_or, drop, replicate, Ok, Err, sym, refl, ap, ◌∙◌, subst, arith, length-append}
+use Rattle.std.proofs.Common.{◌≡◌, ℕ, zero, suc, ◌-◌, ◌<◌, ◌≤◌, Bool, true, false, cond, not, ◌&&◌, eqb, ltb, leb, List, [], ◌∷◌, ◌++◌, length, get_or, take, drop, replicate, Ok, Err, sym, refl, ap, ◌∙◌, subst, arith, length-append}
 use lib.ListN.{length-replicate}
-use Rattle.std.proofs.lemmas.List.{at_drop_more, at_drop_all, drop-replicate}
+use Rattle.std.proofs.lemmas.List.{length-take-le, drop-replicate}
+use Rattle.std.proofs.lemmas.List.Folds.{list_all-append}
 use Rattle.std.proofs.lemmas.Bool.{false≢true, and_parts, and_from, and_right, not-true, not_from_false, eqb-true, eq-eqb, ltb-true, lt-ltb, leb-true, le-leb, cond-true, cond-false}
 use Rattle.base.specs.declared.Case.TheVariants.{BadShape}
 use Rattle.base.specs.declared.Fault.{Fault}
@@ -62,10 +63,7 @@ spaces_trimmed zero = refl
 spaces_trimmed (suc n) = cond-true (all_spaces (replicate n space)) [] (space ∷ trimmed (replicate n space)) (spaces_all n)
 
 good-append : (t r : List ℕ) → all_printable t ≡ true → all_printable r ≡ true → all_printable (t ++ r) ≡ true
-good-append [] r e f = f
-good-append (b ∷ t) r e f =
-    let p = and_parts (is_printable b) (all_printable t) e in
-    and_from (is_printable b) (all_printable (t ++ r)) p.0 (good-append t r p.1 f)
+good-append t r e f = list_all-append is_printable t r ∙ and_from (all_printable t) (all_printable r) e f
 
 not_left : (x y : Bool) → x ≡ false → (x && y) ≡ false
 not_left x y e = ap (λ (b : Bool). b && y) e
@@ -89,8 +87,8 @@ trimmed-append (b ∷ c ∷ t) n h e =
     cond-false (eqb b space && all_spaces ((c ∷ t) ++ r)) [] (b ∷ trimmed ((c ∷ t) ++ r)) (and_right (eqb b space) (all_spaces ((c ∷ t) ++ r)) (not_spaces (c ∷ t) r (omega arith) f))
     ∙ ap (λ (bs : List ℕ). b ∷ bs) (trimmed-append (c ∷ t) n (omega arith) f)
 
-pub padded-shape : (t : List ℕ) → is_plate_text t ≡ true → is_plate (padded t) ≡ true
-padded-shape t e =
+pub padded_shape : (t : List ℕ) → is_plate_text t ≡ true → is_plate (padded t) ≡ true
+padded_shape t e =
     let a = admitted t e in
     let r = replicate (plate_bytes - length t) space in
     let size : length (t ++ r) ≡ plate_bytes = simp (length-append, length-replicate) (let s : length t ≤ plate_bytes = a.short in omega arith) in
@@ -101,13 +99,13 @@ padded-shape t e =
 -- Only a text that has a plate becomes one.
 only : (x : Bool) (p bs : List ℕ) (f : Fault) → cond x (Ok p) (Err f) ≡ Ok bs → (x ≡ true) × (p ≡ bs)
 only true p bs f e = (refl, cc)
-only false p bs f e = let z : ◌≡◌ {A = ℕ} 0 1 = cc in absurd (omega arith)
+only false p bs f e = absurd (cc)
 
 comes : (t bs : List ℕ) → plate_of t ≡ Ok bs → (is_plate_text t ≡ true) × (padded t ≡ bs)
 comes t bs e = only (is_plate_text t) (padded t) bs (fault BadShape Common) e
 
 shape : (t bs : List ℕ) → plate_of t ≡ Ok bs → is_plate bs ≡ true
-shape t bs e = let p = comes t bs e in subst (λ (x : List ℕ). is_plate x ≡ true) p.1 (padded-shape t p.0)
+shape t bs e = let p = comes t bs e in subst (λ (x : List ℕ). is_plate x ≡ true) p.1 (padded_shape t p.0)
 
 text : (t bs : List ℕ) → plate_of t ≡ Ok bs → trimmed bs ≡ t
 text t bs e =
@@ -115,19 +113,12 @@ text t bs e =
     let a = admitted t p.0 in
     ap trimmed (sym p.1) ∙ trimmed-append t (plate_bytes - length t) a.some a.ends
 
--- The test of every byte, one on.
-pub printable_on : (xs : List ℕ) (i : ℕ) → i < length xs → is_printable (get_or xs i 0) ≡ true → all_printable (drop i xs) ≡ all_printable (drop (i + 1) xs)
-printable_on xs i h e = at_drop_more all_printable xs i 0 h ∙ ap (λ (b : Bool). b && all_printable (drop (i + 1) xs)) e
+-- Spaces with a text written over their front.
+pub front_long : (t : List ℕ) → length t ≤ plate_bytes → length (take (length t) (replicate plate_bytes space)) ≡ length t
+front_long t e = length-take-le (length t) (replicate plate_bytes space) e
 
-pub printable_off : (xs : List ℕ) (i : ℕ) → i < length xs → is_printable (get_or xs i 0) ≡ false → all_printable (drop i xs) ≡ false
-printable_off xs i h e = at_drop_more all_printable xs i 0 h ∙ ap (λ (b : Bool). b && all_printable (drop (i + 1) xs)) e
-
-pub printable_end : (xs : List ℕ) (i : ℕ) → length xs ≤ i → all_printable (drop i xs) ≡ true
-printable_end xs i h = at_drop_all all_printable xs i h
-
--- Spaces with a text over their front.
-pub over_spaces : (t : List ℕ) → t ++ drop (length t) (replicate plate_bytes space) ≡ padded t
-over_spaces t = ap (λ (r : List ℕ). t ++ r) (drop-replicate (length t) plate_bytes space)
+pub written_over : (t bs : List ℕ) → bs ≡ t → bs ++ drop (length t) (replicate plate_bytes space) ≡ padded t
+written_over t bs e = ap (λ (p : List ℕ). p ++ drop (length t) (replicate plate_bytes space)) e ∙ ap (λ (r : List ℕ). t ++ r) (drop-replicate (length t) plate_bytes space)
 
 -- A text that bytes are, but for spaces at their end.
 record Found (bs t : List ℕ) : Type 0 where

@@ -1,6 +1,6 @@
 -- Chip numbers: the twelve bytes of one. Assumes nothing.
 use Rattle.std.specs.Prelude.{ℕ, ◌/◌, ◌%◌, ◌^◌, List, [], ◌∷◌}
-use Rattle.identity.specs.declared.Chip.{Chip}
+use Rattle.identity.specs.declared.chip.Chip.{Chip}
 
 -- The chip with a number.
 abbrev pub chip : ℕ → Chip

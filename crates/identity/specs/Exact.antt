@@ -7,7 +7,7 @@ use Rattle.std.proofs.lemmas.Slice.Eq.{bytes_eq-Decides}
 use Rattle.std.proofs.lemmas.Bool.Decides.{Decides-like}
 use Rattle.std.specs.Int.Digits.{number_from_digits as number_of}
 use Rattle.std.specs.Str.{bytes_eq}
-use Rattle.identity.specs.declared.Chip.{Chip}
+use Rattle.identity.specs.declared.chip.Chip.{Chip}
 use Rattle.identity.specs.declared.plate.Plate.{Plate}
 use Rattle.identity.specs.Chips.{chip, eight_bytes, chip_bytes}
 use Rattle.identity.specs.Plates.{is_plate}

@@ -1,5 +1,6 @@
 -- Plates: which texts have one, and its twelve bytes. Assumes nothing.
 use Rattle.std.specs.Prelude.{◌≡◌, ℕ, ◌-◌, Bool, true, cond, not, ◌&&◌, List, [], ◌∷◌, ◌++◌, length, replicate, Ok, Err, Result, ◌==◌, nat_le, nat_lt, slice_index}
+use Rattle.std.specs.List.{list_all}
 use Rattle.base.specs.declared.Case.TheVariants.{BadShape}
 use Rattle.base.specs.declared.Fault.{Fault}
 use Rattle.base.specs.declared.Layer.TheVariants.{Common}
@@ -17,12 +18,10 @@ abbrev pub is_printable : ℕ → Bool
 is_printable b = nat_le 32 b && nat_le b 126
 
 abbrev pub all_printable : List ℕ → Bool
-all_printable [] = true
-all_printable (b ∷ bs) = is_printable b && all_printable bs
+all_printable bs = list_all is_printable bs
 
 abbrev pub all_spaces : List ℕ → Bool
-all_spaces [] = true
-all_spaces (b ∷ bs) = b == space && all_spaces bs
+all_spaces bs = list_all (λ b. b == space) bs
 
 -- The last byte of a text.
 abbrev pub last_byte : List ℕ → ℕ

@@ -1,4 +1,4 @@
 pub mod Naming
-pub mod Puts
 pub mod Takes
 pub mod Trips
+pub mod Words

@@ -1,5 +1,5 @@
 -- The entry tells what an end reads. Assumes nothing.
-use Rattle.std.proofs.Common.{◌≡◌, ℕ, suc, Bool, true, false, cond, eqb, List, [], ◌∷◌, length, drop, Some, None, Ok, Err, Option, sym, refl, ap, ◌∙◌, arith}
+use Rattle.std.proofs.Common.{◌≡◌, ℕ, suc, Bool, true, false, cond, eqb, List, [], ◌∷◌, length, drop, Some, None, Ok, Err, Option, sym, refl, ap, ◌∙◌}
 use Rattle.std.proofs.lemmas.Bool.{cond-true, eq-eqb, eqb-true}
 use Rattle.base.specs.declared.Case.{Case}
 use Rattle.messages.specs.declared.kind.End.{End}
@@ -23,18 +23,18 @@ tells end bs s e =
 
 passed : (b : Bool) (j k : Kind) (c : Case) → cond b (Ok j) (Err c) ≡ Ok k → (b ≡ true) × (j ≡ k)
 passed true j k c e = (refl, cc)
-passed false j k c e = let z : ◌≡◌ {A = ℕ} 0 1 = cc in absurd (omega arith)
+passed false j k c e = absurd (cc)
 
 read_as : (k : Kind) (rest : List ℕ) (o : Option Kind) → of_length o (suc (length rest)) ≡ Ok k → reading_as (about k).reader o rest ≡ Ok (said_by k rest)
-read_as k rest None e = let z : ◌≡◌ {A = ℕ} 0 1 = cc in absurd (omega arith)
+read_as k rest None e = absurd (cc)
 read_as k rest (Some j) e =
     let fits = passed (eqb (suc (length rest)) (about j).bytes) j k _ e in
     ap (λ (i : Kind). reading_as (about k).reader (Some i) rest) fits.1
     ∙ takes_kind (about k).reader k rest (own_end (about k).reader) (eqb-true (suc (length rest)) (about j).bytes fits.0 ∙ ap (λ (i : Kind). (about i).bytes) fits.1)
 
 reads : (bs : List ℕ) (k : Kind) → whole_kind bs ≡ Ok k → reading (about k).reader bs ≡ Ok (said_by k (drop 1 bs))
-reads [] k e = let z : ◌≡◌ {A = ℕ} 0 1 = cc in absurd (omega arith)
+reads [] k e = absurd (cc)
 reads (n ∷ rest) k e = read_as k rest (kind_by n) e
 
-pub entry-laws : EntryLaws
-entry-laws = record { tells = tells; reads = reads }
+pub entry_laws : EntryLaws
+entry_laws = record { tells = tells; reads = reads }

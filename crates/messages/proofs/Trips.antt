@@ -33,7 +33,7 @@ named Abort = refl
 
 -- A kind that a number names has that number.
 numbered : (ks : List Kind) (n : ℕ) (k : Kind) → kind_in ks n ≡ Some k → (about k).number ≡ n
-numbered [] n k e = let z : ◌≡◌ {A = ℕ} 0 1 = cc in absurd (omega arith)
+numbered [] n k e = absurd (cc)
 numbered (j ∷ ks) n k e = by (eqb n (about j).number) refl (numbered ks n k) e
   where
     by : (b : Bool) → eqb n (about j).number ≡ b → (kind_in ks n ≡ Some k → (about k).number ≡ n) → cond b (Some j) (kind_in ks n) ≡ Some k → (about k).number ≡ n
@@ -195,7 +195,7 @@ said-whole Abort rest l u = tt
 -- The answer of a test that did not refuse.
 passed : (b : Bool) (x : Result Said Fault) (f : Fault) (s : Said) → cond b x (Err f) ≡ Ok s → (b ≡ true) × (x ≡ Ok s)
 passed true x f s e = (refl, e)
-passed false x f s e = let z : ◌≡◌ {A = ℕ} 0 1 = cc in absurd (omega arith)
+passed false x f s e = absurd (cc)
 
 -- What was read, by its kind.
 pub record Taken (bs : List ℕ) (s : Said) : Type 0 where
@@ -206,7 +206,7 @@ pub record Taken (bs : List ℕ) (s : Said) : Type 0 where
   pub says : said_by kind rest ≡ s
 
 taken_as : (end : End) (n : ℕ) (rest : List ℕ) (s : Said) (o : Option Kind) → kind_by n ≡ o → reading_as end o rest ≡ Ok s → Taken (n ∷ rest) s
-taken_as end n rest s None names e = let z : ◌≡◌ {A = ℕ} 0 1 = cc in absurd (omega arith)
+taken_as end n rest s None names e = absurd (cc)
 taken_as end n rest s (Some k) names e =
     let here = passed (same_end end (about k).reader) _ _ s e in
     let long = passed (eqb (suc (length rest)) (about k).bytes) (Ok (said_by k rest)) _ s here.1 in
@@ -219,7 +219,7 @@ taken_as end n rest s (Some k) names e =
     }
 
 pub taken : (end : End) (bs : List ℕ) (s : Said) → reading end bs ≡ Ok s → Taken bs s
-taken end [] s e = let z : ◌≡◌ {A = ℕ} 0 1 = cc in absurd (omega arith)
+taken end [] s e = absurd (cc)
 taken end (n ∷ rest) s e = taken_as end n rest s (kind_by n) refl e
 
 under_rest : (bs : List ℕ) (n : ℕ) (rest : List ℕ) → bs ≡ n ∷ rest → AllBelowBase 256 bs → AllBelowBase 256 rest
@@ -243,8 +243,8 @@ pub round_trips : RoundTrips
 round_trips = record { size = size; back = back; same = same; whole = whole }
 
 -- Of one call: a message at the front of an area reads back.
-pub reads-back : (s : Said) (area area' : List ℕ) → Whole s → area' ≡ written s area → reading (about (kind_of s)).reader (take (about (kind_of s)).bytes area') ≡ Ok s
-reads-back s area area' w e =
+pub reads_back : (s : Said) (area area' : List ℕ) → Whole s → area' ≡ written s area → reading (about (kind_of s)).reader (take (about (kind_of s)).bytes area') ≡ Ok s
+reads_back s area area' w e =
     ap (λ (xs : List ℕ). reading (about (kind_of s)).reader (take (about (kind_of s)).bytes xs)) e
     ∙ ap (reading (about (kind_of s)).reader) (take_at (bytes_of s) (drop (about (kind_of s)).bytes area) (about (kind_of s)).bytes (size s w))
     ∙ back s w

@@ -1,6 +1,6 @@
 pub mod Kinds
 pub mod Wire
+pub mod Fields
 pub mod Codec
 pub mod Trips
-pub mod Steps
 pub mod Entry

@@ -1,88 +1,21 @@
 // Fields in bytes: numbers are highest byte first.
-ghost use Rattle.std.specs.Prelude.{◌≡◌, ◌+◌, ◌≤◌, length};
-ghost use Rattle.base.specs.Numbers.{leading, big_endian};
-ghost use Rattle.messages.specs.Wire.{part, number_at};
+ghost use Rattle.std.specs.Prelude.{◌≡◌, ◌+◌, ◌<◌, cond, length, drop, MatchOption, None, Some, ◌==◌};
+ghost use Rattle.base.specs.Numbers.{leading};
 
-use base::ROW_BYTES;
+use base::TAG_BYTES;
 
-// The number in eight bytes.
-fn u64_of(bytes: [u8; 8]) -> u64
-    ensures { result ≡ leading 8 bytes }
+// The number in the first eight bytes, and the bytes behind them.
+#[tactic(auto, using(crate::proofs::Words::word_in_front))]
+pub(crate) fn first_u64(bytes: &[u8]) -> Option<(u64, &[u8])>
+    ensures { MatchOption result (length bytes.now < 8) (λ p. (p.0 ≡ leading 8 bytes.now) × (p.1.now ≡ drop 8 bytes.now) × (length p.1.now + 8 ≡ length bytes.now)) }
 {
-    u64::from_be_bytes(bytes)
+    let (first, rest) = bytes.split_first_chunk::<8>()?;
+    Some((u64::from_be_bytes(*first), rest))
 }
 
-// The number in four bytes.
-fn u32_of(bytes: [u8; 4]) -> u32
-    ensures { result ≡ leading 4 bytes }
+// The bytes as a tag, if they are as many.
+pub(crate) fn as_tag(bytes: &[u8]) -> Option<[u8; TAG_BYTES]>
+    ensures { result ≡ cond (length bytes.now == 8) (Some bytes.now) None }
 {
-    u32::from_be_bytes(bytes)
-}
-
-// The four bytes from a place on.
-fn four_at(bytes: &[u8], at: usize) -> [u8; 4]
-    requires { at + 4 ≤ length bytes.now }
-    ensures { result ≡ part at 4 bytes.now }
-{
-    let mut copy = [0; 4];
-    copy.copy_from_slice(&bytes[at..at + 4]);
-    copy
-}
-
-// The eight bytes from a place on.
-pub(crate) fn eight_at(bytes: &[u8], at: usize) -> [u8; 8]
-    requires { at + 8 ≤ length bytes.now }
-    ensures { result ≡ part at 8 bytes.now }
-{
-    let mut copy = [0; 8];
-    copy.copy_from_slice(&bytes[at..at + 8]);
-    copy
-}
-
-// The twelve bytes from a place on.
-pub(crate) fn twelve_at(bytes: &[u8], at: usize) -> [u8; 12]
-    requires { at + 12 ≤ length bytes.now }
-    ensures { result ≡ part at 12 bytes.now }
-{
-    let mut copy = [0; 12];
-    copy.copy_from_slice(&bytes[at..at + 12]);
-    copy
-}
-
-// The number in the eight bytes from a place on.
-pub(crate) fn u64_at(bytes: &[u8], at: usize) -> u64
-    requires { at + 8 ≤ length bytes.now }
-    ensures { result ≡ number_at at 8 bytes.now }
-{
-    u64_of(eight_at(bytes, at))
-}
-
-// The number in the four bytes from a place on.
-pub(crate) fn u32_at(bytes: &[u8], at: usize) -> u32
-    requires { at + 4 ≤ length bytes.now }
-    ensures { result ≡ number_at at 4 bytes.now }
-{
-    u32_of(four_at(bytes, at))
-}
-
-// The eight bytes of a number.
-pub(crate) fn u64_bytes(value: u64) -> [u8; 8]
-    ensures { result ≡ big_endian 8 value }
-{
-    value.to_be_bytes()
-}
-
-// The four bytes of a number.
-pub(crate) fn u32_bytes(value: u32) -> [u8; 4]
-    ensures { result ≡ big_endian 4 value }
-{
-    value.to_be_bytes()
-}
-
-// The bytes as a row: lent, not copied.
-pub(crate) fn as_row(bytes: &[u8]) -> &[u8; ROW_BYTES]
-    requires { length bytes.now ≡ 64 }
-    ensures { result.now ≡ part 0 64 bytes.now }
-{
-    bytes.first_chunk::<ROW_BYTES>().unwrap()
+    bytes.as_array::<TAG_BYTES>().copied()
 }

@@ -1,18 +1,21 @@
 // The kinds of messages.
 ghost use Rattle.std.specs.Prelude.{◌≡◌};
-ghost use Rattle.messages.specs.Kinds.{about, kind_by, layer_of, same_end};
+ghost use Rattle.std.specs.Option.{ok_or};
+ghost use Rattle.base.specs.declared.Case.TheVariants.{NoKind};
+ghost use Rattle.messages.specs.Entry.{whole_kind, EntryLaws};
+ghost use Rattle.messages.specs.Kinds.{about, kind_by, layer_of};
 
-use base::Layer;
+use base::{Case, Layer};
 
 /// The end that reads a message.
-#[derive(Clone, Copy)]
+#[derive(Clone, Copy, Debug, PartialEq, Eq)]
 pub enum End {
     Terminal,
     Server,
 }
 
 /// What a message is for.
-#[derive(Clone, Copy)]
+#[derive(Clone, Copy, Debug, PartialEq, Eq)]
 pub enum Kind {
     GetStatus = 1,
     RespondStatus = 2,
@@ -28,6 +31,7 @@ pub enum Kind {
 
 impl End {
     /// The layer of the refusals that are this end's own.
+    // A method and no `From`: an end has a layer, and is none.
     pub fn layer(self) -> Layer
         ensures { result ≡ layer_of self }
     {
@@ -38,31 +42,55 @@ impl End {
     }
 }
 
-impl Kind {
-    /// The first byte of a message of this kind.
-    pub fn number(self) -> u8
-        ensures { result ≡ (about self).number }
-    {
-        self as u8
-    }
+/// The first byte of a message of a kind.
+impl From<Kind> for u8 {
+    ghost from_gives = { λ kind number. number ≡ (about kind).number };
 
-    /// The kind with a number, if there is one.
-    pub fn from_number(number: u8) -> Option<Kind>
-        ensures { result ≡ kind_by number }
-    {
+    fn from(kind: Kind) -> u8 {
+        kind as u8
+    }
+}
+
+/// The kind with a number. Refused as `NoKind` is a number that no kind has.
+impl TryFrom<u8> for Kind {
+    type Error = Case;
+
+    ghost try_from_gives = { λ number kind. kind ≡ ok_or (kind_by number) NoKind };
+
+    fn try_from(number: u8) -> Result<Kind, Case> {
         match number {
-            1 => Some(Kind::GetStatus),
-            2 => Some(Kind::RespondStatus),
-            3 => Some(Kind::Update),
-            4 => Some(Kind::Reset),
-            5 => Some(Kind::Row),
-            6 => Some(Kind::Close),
-            7 => Some(Kind::UpdateConfirm),
-            8 => Some(Kind::UpdateFail),
-            9 => Some(Kind::ResetConfirm),
-            10 => Some(Kind::Abort),
-            _ => None,
+            1 => Ok(Kind::GetStatus),
+            2 => Ok(Kind::RespondStatus),
+            3 => Ok(Kind::Update),
+            4 => Ok(Kind::Reset),
+            5 => Ok(Kind::Row),
+            6 => Ok(Kind::Close),
+            7 => Ok(Kind::UpdateConfirm),
+            8 => Ok(Kind::UpdateFail),
+            9 => Ok(Kind::ResetConfirm),
+            10 => Ok(Kind::Abort),
+            _ => Err(Case::NoKind),
         }
+    }
+}
+
+impl Kind {
+    /// The kind of a message that has its kind's length. Refused as `Empty` is a message of no byte,
+    /// as `NoKind` one whose first byte is no kind, and as `BadLength` one that is too short or too
+    /// long for its kind, tried in this order.
+    #[tactic(auto, using(crate::proofs::Naming::entry_laws))]
+    pub fn of_message(message: &[u8]) -> Result<Kind, Case>
+        ensures answer { result ≡ whole_kind message.now }
+        ensures laws { EntryLaws }
+    {
+        let [first, ..] = message else {
+            return Err(Case::Empty);
+        };
+        let kind = Kind::try_from(*first)?;
+        if message.len() != kind.length() {
+            return Err(Case::BadLength);
+        }
+        Ok(kind)
     }
 
     /// The bytes of a message of this kind, the first among them.
@@ -91,15 +119,5 @@ impl Kind {
             | Kind::ResetConfirm
             | Kind::Abort => End::Server,
         }
-    }
-}
-
-// Whether two ends are one.
-pub(crate) fn same_end(a: End, b: End) -> bool
-    ensures { result ≡ same_end a b }
-{
-    match a {
-        End::Terminal => matches!(b, End::Terminal),
-        End::Server => matches!(b, End::Server),
     }
 }

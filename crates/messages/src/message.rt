@@ -6,7 +6,7 @@ use crate::kind::Kind;
 use base::{IDENTITY_BYTES, ROW_BYTES, TAG_BYTES};
 
 /// A message and its fields. A row is lent by the bytes that it was read from.
-#[derive(Clone, Copy)]
+#[derive(Clone, Copy, Debug, PartialEq, Eq)]
 pub enum Message<'a> {
     /// Asks a terminal for its status. It names the version and the identity that are expected, the
     /// largest count that is taken, and the server's nonce.

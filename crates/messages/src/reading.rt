@@ -1,93 +1,61 @@
 // Reading a message.
-ghost use Rattle.std.specs.Prelude.{◌≡◌, ◌+◌, length};
+ghost use Rattle.std.specs.Prelude.{◌≡◌, suc, cond, length, None, Some, ◌==◌};
+ghost use Rattle.std.specs.Option.{option_map};
 ghost use Rattle.messages.specs.Kinds.{about};
 ghost use Rattle.messages.specs.Wire.{meant, said_by};
 ghost use Rattle.messages.specs.Codec.{told, reading_as, reading};
 ghost use Rattle.messages.specs.Trips.{WritesBack, RoundTrips};
 
-use crate::fields::{as_row, eight_at, twelve_at, u32_at, u64_at};
-use crate::kind::{End, Kind, same_end};
+use crate::fields::{as_tag, first_u64};
+use crate::kind::{End, Kind};
 use crate::message::Message;
-use base::{Case, Fault, Layer};
+use crate::status::Status;
+use base::{Case, Fault, Layer, ROW_BYTES};
 
-// What a request for the status says by the bytes after its first.
-fn get_status(rest: &[u8]) -> Message
-    requires { length rest.now ≡ 40 }
-    ensures { meant result ≡ said_by Kind.GetStatus rest.now }
-{
-    Message::GetStatus {
-        version: u64_at(rest, 0),
-        identity: twelve_at(rest, 8),
-        limit: u32_at(rest, 20),
-        nonce: u64_at(rest, 24),
-        tag: eight_at(rest, 32),
-    }
-}
-
-// What a status says by the bytes after its first.
-fn respond_status(rest: &[u8]) -> Message
-    requires { length rest.now ≡ 40 }
-    ensures { meant result ≡ said_by Kind.RespondStatus rest.now }
-{
-    Message::RespondStatus {
-        version: u64_at(rest, 0),
-        identity: twelve_at(rest, 8),
-        count: u32_at(rest, 20),
-        stored: u64_at(rest, 24),
-        tag: eight_at(rest, 32),
-    }
-}
-
-// What a message of a kind says by the bytes after its first.
-fn parse(kind: Kind, rest: &[u8]) -> Message
-    requires { length rest.now + 1 ≡ (about kind).bytes }
-    ensures { meant result ≡ said_by kind rest.now }
+// What a message of a kind says by the bytes after its first, if they are as many as its kind has.
+fn parse(kind: Kind, rest: &[u8]) -> Option<Message>
+    ensures { option_map meant result ≡ cond (suc (length rest.now) == (about kind).bytes) (Some (said_by kind rest.now)) None }
 {
     match kind {
-        Kind::GetStatus => get_status(rest),
-        Kind::RespondStatus => respond_status(rest),
-        Kind::Update => Message::Update {
-            tag: eight_at(rest, 0),
+        Kind::GetStatus => Some(Status::parse(rest)?.into_get_status()),
+        Kind::RespondStatus => Some(Status::parse(rest)?.into_respond_status()),
+        Kind::Update => Some(Message::Update { tag: as_tag(rest)? }),
+        Kind::Reset => Some(Message::Reset { tag: as_tag(rest)? }),
+        Kind::Row => Some(Message::Row {
+            row: rest.as_array::<ROW_BYTES>()?,
+        }),
+        Kind::Close => {
+            let (version, rest) = first_u64(rest)?;
+            Some(Message::Close {
+                version,
+                tag: as_tag(rest)?,
+            })
+        }
+        Kind::UpdateConfirm => Some(Message::UpdateConfirm { tag: as_tag(rest)? }),
+        Kind::UpdateFail => Some(Message::UpdateFail { tag: as_tag(rest)? }),
+        Kind::ResetConfirm => Some(Message::ResetConfirm { tag: as_tag(rest)? }),
+        Kind::Abort => match rest {
+            [] => Some(Message::Abort),
+            _ => None,
         },
-        Kind::Reset => Message::Reset {
-            tag: eight_at(rest, 0),
-        },
-        Kind::Row => Message::Row { row: as_row(rest) },
-        Kind::Close => Message::Close {
-            version: u64_at(rest, 0),
-            tag: eight_at(rest, 8),
-        },
-        Kind::UpdateConfirm => Message::UpdateConfirm {
-            tag: eight_at(rest, 0),
-        },
-        Kind::UpdateFail => Message::UpdateFail {
-            tag: eight_at(rest, 0),
-        },
-        Kind::ResetConfirm => Message::ResetConfirm {
-            tag: eight_at(rest, 0),
-        },
-        Kind::Abort => Message::Abort,
     }
 }
 
-// Reads a message at an end, by the kind that its first byte names and the bytes after that.
-fn read_as(end: End, kind: Option<Kind>, rest: &[u8]) -> Result<Message, Fault>
-    ensures { told result ≡ reading_as end kind rest.now }
+// Reads a message of a kind at an end, by the bytes after its first.
+fn read_as(end: End, kind: Kind, rest: &[u8]) -> Result<Message, Fault>
+    ensures { told result ≡ reading_as end (Some kind) rest.now }
 {
-    let Some(kind) = kind else {
-        return Err(Fault::new(Case::NoKind, Layer::Common));
-    };
-    if !same_end(end, kind.reader()) {
+    if end != kind.reader() {
         return Err(Fault::new(Case::WrongEnd, end.layer()));
     }
-    if rest.len() + 1 != kind.length() {
-        return Err(Fault::new(Case::BadLength, Layer::Common));
-    }
-    Ok(parse(kind, rest))
+    parse(kind, rest).ok_or(Fault::new(Case::BadLength, Layer::Common))
 }
 
-// Reads a message at an end.
-fn read_at(end: End, message: &[u8]) -> Result<Message, Fault>
+/// Reads a message at an end. Refused as `Empty` is a message of no byte, as `NoKind` one whose first
+/// byte is no kind, as `WrongEnd` one for the other end, and as `BadLength` one that is too short or
+/// too long for its kind, tried in this order.
+#[tactic(auto, using(crate::proofs::Trips::round_trips))]
+pub fn read(end: End, message: &[u8]) -> Result<Message, Fault>
     ensures answer { told result ≡ reading end message.now }
     ensures back { WritesBack (told result) message.now }
     ensures trips { RoundTrips }
@@ -95,16 +63,6 @@ fn read_at(end: End, message: &[u8]) -> Result<Message, Fault>
     let [first, rest @ ..] = message else {
         return Err(Fault::new(Case::Empty, Layer::Common));
     };
-    read_as(end, Kind::from_number(*first), rest)
-}
-
-/// Reads a message at an end. Refused as `Empty` is a message of no byte, as `NoKind` one whose first
-/// byte is no kind, as `WrongEnd` one for the other end, and as `BadLength` one that is too short or
-/// too long for its kind, tried in this order.
-pub fn read(end: End, message: &[u8]) -> Result<Message, Fault>
-    ensures answer { told result ≡ reading end message.now }
-    ensures back { WritesBack (told result) message.now }
-    ensures trips { RoundTrips }
-{
-    read_at(end, message)
+    let kind = Kind::try_from(*first).map_err(|case| Fault::new(case, Layer::Common))?;
+    read_as(end, kind, rest)
 }

@@ -1,70 +1,26 @@
 // Writing a message.
-ghost use Rattle.std.specs.Prelude.{◌≡◌, ◌+◌, ◌≤◌, length};
+ghost use Rattle.std.specs.Prelude.{◌≡◌, ◌+◌, ◌≤◌, ◌++◌, length};
 ghost use Rattle.base.specs.Numbers.{big_endian};
 ghost use Rattle.base.specs.Work.{after};
 ghost use Rattle.messages.specs.Kinds.{about};
 ghost use Rattle.messages.specs.Wire.{meant, kind_of, fields_of};
-ghost use Rattle.messages.specs.Steps.{placed, placed_status, placed_close};
 ghost use Rattle.messages.specs.Codec.{writing, written};
-ghost use Rattle.messages.specs.Trips.{WholeStatus, WholeClose, Whole, ReadsBack};
+ghost use Rattle.messages.specs.Trips.{WholeClose, Whole, ReadsBack};
 
-use crate::fields::{u32_bytes, u64_bytes};
 use crate::message::Message;
-use base::{Case, Fault, IDENTITY_BYTES, Layer, TAG_BYTES};
+use crate::status::Status;
+use base::{Case, Fault, Layer, TAG_BYTES};
 
-// Writes bytes at a place; all else stays.
-fn put(area: &mut [u8], at: usize, bytes: &[u8])
-    requires { at + length bytes.now ≤ length area.old }
-    ensures { area.new ≡ placed at bytes.now area.old }
-{
-    let end = at + bytes.len();
-    area[at..end].copy_from_slice(bytes);
-}
-
-// Writes a number of eight bytes at a place.
-fn put_u64(area: &mut [u8], at: usize, value: u64)
-    requires { at + 8 ≤ length area.old }
-    ensures { area.new ≡ placed at (big_endian 8 value) area.old }
-{
-    put(area, at, &u64_bytes(value));
-}
-
-// Writes a number of four bytes at a place.
-fn put_u32(area: &mut [u8], at: usize, value: u32)
-    requires { at + 4 ≤ length area.old }
-    ensures { area.new ≡ placed at (big_endian 4 value) area.old }
-{
-    put(area, at, &u32_bytes(value));
-}
-
-// Writes the fields of a status message.
-fn put_status(
-    rest: &mut [u8],
-    version: u64,
-    identity: &[u8; IDENTITY_BYTES],
-    count: u32,
-    other: u64,
-    tag: &[u8; TAG_BYTES],
-)
-    requires { length rest.old ≡ 40 }
-    ensures fields { rest.new ≡ placed_status version identity.now count other tag.now rest.old }
-    ensures whole { WholeStatus version identity.now count other tag.now }
-{
-    put_u64(rest, 0, version);
-    put(rest, 8, identity);
-    put_u32(rest, 20, count);
-    put_u64(rest, 24, other);
-    put(rest, 32, tag);
-}
-
-// Writes the fields of a closing.
-fn put_close(rest: &mut [u8], version: u64, tag: &[u8; TAG_BYTES])
+// Writes the fields of a closing over bytes that are as many.
+#[tactic(auto, using(crate::proofs::Words::word_bytes))]
+fn put_close(version: u64, tag: [u8; TAG_BYTES], rest: &mut [u8])
     requires { length rest.old ≡ 16 }
-    ensures fields { rest.new ≡ placed_close version tag.now rest.old }
-    ensures whole { WholeClose version tag.now }
+    ensures fields { rest.new ≡ big_endian 8 version ++ tag }
+    ensures whole { WholeClose version tag }
 {
-    put_u64(rest, 0, version);
-    put(rest, 8, tag);
+    let (front, rest) = rest.split_first_chunk_mut::<8>().unwrap();
+    *front = version.to_be_bytes();
+    rest.copy_from_slice(&tag);
 }
 
 // Writes what follows a message's first byte.
@@ -73,32 +29,35 @@ fn put_fields(message: &Message, rest: &mut [u8])
     ensures fields { rest.new ≡ fields_of (meant message.now) }
     ensures whole { Whole (meant message.now) }
 {
-    match message {
+    match *message {
         Message::GetStatus {
             version,
             identity,
-            limit,
-            nonce,
+            limit: count,
+            nonce: other,
             tag,
-        } => {
-            put_status(rest, *version, identity, *limit, *nonce, tag);
         }
-        Message::RespondStatus {
+        | Message::RespondStatus {
             version,
             identity,
             count,
-            stored,
+            stored: other,
             tag,
-        } => {
-            put_status(rest, *version, identity, *count, *stored, tag);
+        } => Status {
+            version,
+            identity,
+            count,
+            other,
+            tag,
         }
-        Message::Row { row } => rest.copy_from_slice(*row),
-        Message::Close { version, tag } => put_close(rest, *version, tag),
+        .write(rest),
+        Message::Row { row } => rest.copy_from_slice(row),
+        Message::Close { version, tag } => put_close(version, tag, rest),
         Message::Update { tag }
         | Message::Reset { tag }
         | Message::UpdateConfirm { tag }
         | Message::UpdateFail { tag }
-        | Message::ResetConfirm { tag } => rest.copy_from_slice(tag),
+        | Message::ResetConfirm { tag } => rest.copy_from_slice(&tag),
         Message::Abort => {}
     }
 }
@@ -110,12 +69,14 @@ fn put_message(message: &Message, area: &mut [u8])
     ensures whole { Whole (meant message.now) }
 {
     let kind = message.kind();
-    area[0] = kind.number();
+    area[0] = u8::from(kind);
     put_fields(message, &mut area[1..kind.length()]);
 }
 
-// Writes a message at the front of an area, if there is room for it.
-fn write_front(message: &Message, area: &mut [u8]) -> Result<usize, Fault>
+/// Writes a message at the front of an area, and answers its length; every byte after it stays.
+/// Refused as `ShortArea` is an area that is shorter than the message; it stays as it is.
+#[tactic(auto, using(crate::proofs::Trips::reads_back))]
+pub fn write(message: &Message, area: &mut [u8]) -> Result<usize, Fault>
     ensures answer { result ≡ writing (meant message.now) (length area.old) }
     ensures area { area.new ≡ after result (written (meant message.now) area.old) area.old }
     ensures back { ReadsBack (meant message.now) result area.new }
@@ -126,14 +87,4 @@ fn write_front(message: &Message, area: &mut [u8]) -> Result<usize, Fault>
     }
     put_message(message, area);
     Ok(length)
-}
-
-/// Writes a message at the front of an area, and answers its length; every byte after it stays.
-/// Refused as `ShortArea` is an area that is shorter than the message; it stays as it is.
-pub fn write(message: &Message, area: &mut [u8]) -> Result<usize, Fault>
-    ensures answer { result ≡ writing (meant message.now) (length area.old) }
-    ensures area { area.new ≡ after result (written (meant message.now) area.old) area.old }
-    ensures back { ReadsBack (meant message.now) result area.new }
-{
-    write_front(message, area)
 }

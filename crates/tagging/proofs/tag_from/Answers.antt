@@ -1,7 +1,7 @@
 use Rattle.std.proofs.Common.{ℕ, length, ap, ◌∙◌}
 use Rattle.tagging.specs.Tags.{tag_answer}
 use Rattle.tagging.proofs.Places.{part_length, part_put}
-use Rattle.tagging.proofs.tag_part.Goals as goal
+use Rattle.tagging.proofs.tag_from.Goals as goal
 
 pub returns : goal.returns
 returns g c = record {

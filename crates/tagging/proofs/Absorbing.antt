@@ -1,10 +1,8 @@
 -- A text, word by word. Assumes nothing.
-use Rattle.std.proofs.Common.{◌≡◌, ℕ, zero, suc, ◌+◌, ◌-◌, ◌*◌, ◌/◌, ◌%◌, ◌≤◌, List, [], ◌∷◌, ◌++◌, length, take, drop, sym, refl, ap, ◌∙◌, suc-add, div-one, arith, length-append, length-drop, drop-drop}
+use Rattle.std.proofs.Common.{◌≡◌, ℕ, zero, suc, ◌+◌, ◌*◌, ◌/◌, ◌%◌, ◌≤◌, List, [], ◌∷◌, ◌++◌, length, take, drop, sym, refl, ap, ◌∙◌, suc-add, div-one, arith, length-append, length-drop, drop-drop}
 use lib.ListN.{length-replicate}
 use lib.Seq.{take-append-le, drop-append-le}
 use Rattle.std.proofs.lemmas.List.{take_all, length-take-le}
-use Rattle.std.proofs.lemmas.Slice.{between_to_end}
-use Rattle.std.specs.List.{between}
 use Rattle.tagging.specs.declared.sip.State.{State}
 use Rattle.tagging.specs.Sip.{absorbed, absorbs, filling}
 use Rattle.tagging.specs.Words.{low_first, word_bytes}
@@ -51,16 +49,5 @@ bytes_of_word n = ap (λ (k : ℕ). (k % 256) ∷ (n / 256 % 256) ∷ (n / 65536
 
 -- What is left of a text after its whole words, filled up, is a word.
 pub last-filled : (text : List ℕ)
-    → take 8 (drop (length text / 8 * 8) text ++ filling (length text) (length text % 8))
-    ≡ between (length text / 8 * 8) (length text) text ++ filling (length text) (length (between (length text / 8 * 8) (length text) text))
-last-filled text =
-    let at : ℕ = length text / 8 * 8 in
-    let all : between at (length text) text ≡ drop at text = between_to_end text at (length text) (omega arith) in
-    let left : length (drop at text) ≡ length text % 8 = length-drop at text ∙ rest_of (length text) in
-    let eight : length (drop at text ++ filling (length text) (length text % 8)) ≤ 8 = simp (length-append, length-replicate, length-drop) (omega arith) in
-    take_all 8 (drop at text ++ filling (length text) (length text % 8)) eight
-    ∙ ap (λ (k : ℕ). drop at text ++ filling (length text) k) (sym left)
-    ∙ ap (λ (z : List ℕ). z ++ filling (length text) (length z)) (sym all)
-  where
-    rest_of : (n : ℕ) → n - n / 8 * 8 ≡ n % 8
-    rest_of n = omega arith
+    → take 8 (drop (length text / 8 * 8) text ++ filling (length text) (length text % 8)) ≡ drop (length text / 8 * 8) text ++ filling (length text) (length text % 8)
+last-filled text = take_all 8 _ (simp (length-append, length-replicate, length-drop) (omega arith))

@@ -33,10 +33,20 @@ low_zeros (suc k) s =
     let more : 256 ^ suc k * s ≡ 256 * (256 ^ k * s) = ap (λ (p : ℕ). p * s) (pow-succ' 256 k) ∙ mul_assoc 256 (256 ^ k) s in
     let rest = low_zeros k s in omega arith
 
+-- How great the number of some bytes can be.
+low_bound : (bs : List ℕ) → ((i : ℕ) → get_or bs i 0 < 256) → low_first bs < 256 ^ length bs
+unfolding low_first
+low_bound [] h = omega arith
+low_bound (b ∷ bs) h =
+    let rest = low_bound bs (λ i. h (suc i)) in
+    let first : b < 256 = h 0 in
+    let more = pow-succ' 256 (length bs) in omega arith
+
 -- The last word of a text: the length stands in its highest byte.
-pub low-filled : (rest : List ℕ) (size : ℕ) → length rest < 8 → low_first rest < 256 ^ length rest
+pub low-filled : (rest : List ℕ) (size : ℕ) → ((i : ℕ) → get_or rest i 0 < 256) → length rest < 8
     → bit_or (low_first rest) (size * 2 ^ 56 % 2 ^ 64) ≡ low_first (rest ++ filling size (length rest))
-low-filled rest size h k =
+low-filled rest size b h =
+    let k = low_bound rest b in
     let r : ℕ = length rest in
     let seven : r + (7 - r) ≡ 7 = omega arith in
     let whole : 256 ^ r * 256 ^ (7 - r) ≡ 2 ^ 56 = sym (pow-add 256 r (7 - r)) ∙ ap (λ (p : ℕ). 256 ^ p) seven in
@@ -48,15 +58,6 @@ low-filled rest size h k =
     let fill : low_first (filling size r) ≡ 256 ^ (7 - r) * (size % 256) = low_zeros (7 - r) (size % 256) in
     ap (bit_or (low_first rest)) cut ∙ or_shifted_r (size % 256) 56 (low_first rest) (omega arith)
     ∙ omega (arith, low-append rest (filling size r), ap (λ (p : ℕ). 256 ^ r * p) fill ∙ top)
-
--- How great the number of some bytes can be.
-pub low_bound : (bs : List ℕ) → ((i : ℕ) → get_or bs i 0 < 256) → low_first bs < 256 ^ length bs
-unfolding low_first
-low_bound [] h = omega arith
-low_bound (b ∷ bs) h =
-    let rest = low_bound bs (λ i. h (suc i)) in
-    let first : b < 256 = h 0 in
-    let more = pow-succ' 256 (length bs) in omega arith
 
 -- The number byte by byte, from the highest.
 pub number-is : (bs : List ℕ) → ((i : ℕ) → get_or bs i 0 < 256) → length bs < 8 → fold (λ n byte. bit_or (n * 2 ^ 8 % 2 ^ 64) byte) 0 (reverse bs) ≡ low_first bs

@@ -28,6 +28,7 @@ pub fn admit(text: usize, out: usize, work: usize) -> Result<(), Fault>
 }
 
 /// Writes the tag of a text into the eight bytes of an area from a place on; every other byte stays.
+#[tactic(auto, using(crate::proofs::Places::part_length, crate::proofs::Places::part_put))]
 pub fn tag_from<T: Tagger>(
     tagger: &T,
     key: &[u8; KEY_BYTES],

@@ -1,26 +1,25 @@
 -- A text, word by word. Assumes nothing.
-use Rattle.std.proofs.Common.{◌≡◌, ℕ, zero, suc, ◌+◌, ◌-◌, ◌*◌, ◌/◌, ◌%◌, ◌<◌, ◌≤◌, List, [], ◌∷◌, ◌++◌, length, take, drop, sym, refl, ap, ◌∙◌, suc-add, div-one, arith, length-append, length-drop, drop-drop}
+use Rattle.std.proofs.Common.{◌≡◌, ℕ, zero, suc, ◌+◌, ◌*◌, ◌/◌, ◌%◌, ◌≤◌, List, [], ◌∷◌, ◌++◌, length, take, drop, sym, refl, ap, ◌∙◌, suc-add, div-one, arith, length-append, length-drop, drop-drop}
 use lib.ListN.{length-replicate}
 use lib.Seq.{take-append-le, drop-append-le}
-use Rattle.std.proofs.lemmas.List.{take_all}
-use Rattle.std.proofs.lemmas.Slice.{between_to_end}
-use Rattle.std.specs.List.{between}
+use Rattle.std.proofs.lemmas.List.{take_all, length-take-le}
 use Rattle.tagging.specs.declared.sip.State.{State}
 use Rattle.tagging.specs.Sip.{absorbed, absorbs, filling}
 use Rattle.tagging.specs.Words.{low_first, word_bytes}
+use Rattle.tagging.proofs.Numbers.{low_eight}
+use Rattle.std.specs.Int.{w64, from_le_bytes}
+use Rattle.std.specs.Prelude.{fold}
+use Rattle.std.specs.Simd.{first_chunks}
 
--- A turn of the loop over the words.
-pub absorbs-more : (n i : ℕ) (s t : State) (text : List ℕ) → i < n → t ≡ absorbed s (low_first (take 8 (drop (i * 8) text)))
-    → absorbs (n - (i + 1)) t (drop ((i + 1) * 8) text) ≡ absorbs (n - i) s (drop (i * 8) text)
+-- The whole words of a text, one after the other.
+pub absorbs-all : (n : ℕ) (s : State) (text : List ℕ) → n * 8 ≤ length text
+    → fold (λ t word. absorbed t (from_le_bytes w64 word)) s (first_chunks 8 n text) ≡ absorbs n s text
 unfolding absorbs
-absorbs-more n i s t text h e =
-    ap (λ (z : State). absorbs (n - (i + 1)) z (drop ((i + 1) * 8) text)) e
-    ∙ ap (λ (z : ℕ). absorbs (n - (i + 1)) (absorbed s (low_first (take 8 (drop (i * 8) text)))) (drop z text)) (omega arith)
-    ∙ ap (λ (z : List ℕ). absorbs (n - (i + 1)) (absorbed s (low_first (take 8 (drop (i * 8) text)))) z) (sym (drop-drop 8 (i * 8) text))
-    ∙ ap (λ (z : ℕ). absorbs z s (drop (i * 8) text)) (sym (one_more n i h))
-  where
-    one_more : (n i : ℕ) → i < n → n - i ≡ suc (n - (i + 1))
-    one_more n i h = omega arith
+absorbs-all zero s text h = refl
+absorbs-all (suc n) s text h =
+    let word : from_le_bytes w64 (take 8 text) ≡ low_first (take 8 text) = low_eight (take 8 text) (length-take-le 8 text (omega arith)) in
+    ap (λ m. fold (λ t w. absorbed t (from_le_bytes w64 w)) (absorbed s m) (first_chunks 8 n (drop 8 text))) word
+    ∙ absorbs-all n (absorbed s (low_first (take 8 text))) (drop 8 text) (simp length-drop (omega arith))
 
 -- The last word, after all before it.
 pub absorbs-last : (n : ℕ) (s : State) (text fill : List ℕ) → n * 8 ≤ length text
@@ -38,13 +37,10 @@ absorbs-last (suc n) s text fill h =
     ∙ absorbs-last n t (drop 8 text) fill (simp length-drop (omega arith))
     ∙ ap (λ (z : List ℕ). absorbed (absorbs n t (drop 8 text)) (low_first (take 8 (z ++ fill)))) more
 
--- No word is left.
-pub absorbs-none : (n i : ℕ) (s : State) (text : List ℕ) → n ≤ i → absorbs (n - i) s text ≡ s
-unfolding absorbs
-absorbs-none n i s text h = ap (λ (k : ℕ). absorbs k s text) (none n i h)
-  where
-    none : (n i : ℕ) → n ≤ i → n - i ≡ 0
-    none n i h = omega arith
+-- The two words of a key.
+pub key-words : (key : List ℕ) (words : List (List ℕ)) → length key ≡ 16 → words ≡ first_chunks 8 (length key / 8) key
+    → words ≡ take 8 key ∷ take 8 (drop 8 key) ∷ []
+key-words key words l e = e ∙ ap (λ n. first_chunks 8 (n / 8) key) l
 
 -- A word's bytes, as the library writes them.
 pub bytes_of_word : (n : ℕ)
@@ -53,16 +49,5 @@ bytes_of_word n = ap (λ (k : ℕ). (k % 256) ∷ (n / 256 % 256) ∷ (n / 65536
 
 -- What is left of a text after its whole words, filled up, is a word.
 pub last-filled : (text : List ℕ)
-    → take 8 (drop (length text / 8 * 8) text ++ filling (length text) (length text % 8))
-    ≡ between (length text / 8 * 8) (length text) text ++ filling (length text) (length (between (length text / 8 * 8) (length text) text))
-last-filled text =
-    let at : ℕ = length text / 8 * 8 in
-    let all : between at (length text) text ≡ drop at text = between_to_end text at (length text) (omega arith) in
-    let left : length (drop at text) ≡ length text % 8 = length-drop at text ∙ rest_of (length text) in
-    let eight : length (drop at text ++ filling (length text) (length text % 8)) ≤ 8 = simp (length-append, length-replicate, length-drop) (omega arith) in
-    take_all 8 (drop at text ++ filling (length text) (length text % 8)) eight
-    ∙ ap (λ (k : ℕ). drop at text ++ filling (length text) k) (sym left)
-    ∙ ap (λ (z : List ℕ). z ++ filling (length text) (length z)) (sym all)
-  where
-    rest_of : (n : ℕ) → n - n / 8 * 8 ≡ n % 8
-    rest_of n = omega arith
+    → take 8 (drop (length text / 8 * 8) text ++ filling (length text) (length text % 8)) ≡ drop (length text / 8 * 8) text ++ filling (length text) (length text % 8)
+last-filled text = take_all 8 _ (simp (length-append, length-replicate, length-drop) (omega arith))

@@ -1,8 +1,12 @@
 -- The numbers that bytes write, the lowest first. Assumes nothing.
-use Rattle.std.proofs.Common.{◌≡◌, ℕ, zero, suc, ◌+◌, ◌-◌, ◌*◌, ◌%◌, ◌^◌, ◌<◌, ◌≤◌, List, [], ◌∷◌, ◌++◌, length, get_or, drop, replicate, sym, ap, ◌∙◌, mod-eq_of_lt, mul_assoc, mul_comm, pow-suc, arith, pow-add}
+use Rattle.std.proofs.Common.{◌≡◌, ℕ, zero, suc, ◌+◌, ◌-◌, ◌*◌, ◌%◌, ◌^◌, ◌<◌, ◌≤◌, List, [], ◌∷◌, ◌++◌, length, get_or, drop, replicate, sym, refl, ap, ◌∙◌, mod-eq_of_lt, mul_assoc, mul_comm, arith, pow-add}
 use native.Mathlib.Nat.{pow-succ', pow-le-pow_right}
-use Rattle.std.proofs.lemmas.List.{drop_more, drop_all}
+use Rattle.std.specs.Prelude.{bit_or, fold, reverse}
+use Rattle.std.specs.Int.Bits.{or_shifted, or_shifted_r}
+use Rattle.std.proofs.lemmas.List.{reverse-append}
+use Rattle.std.proofs.lemmas.List.Sums.{fold-append}
 use Rattle.tagging.specs.Sip.{filling}
+use Rattle.std.proofs.lemmas.List.{drop_more, drop_all}
 use Rattle.tagging.specs.Words.{low_first}
 
 -- One byte more, before those that are read.
@@ -13,13 +17,6 @@ low-more bs i h = ap low_first (drop_more bs i 0 h)
 pub low-none : (bs : List ℕ) (i : ℕ) → length bs ≤ i → low_first (drop i bs) ≡ 0
 unfolding low_first
 low-none bs i h = ap low_first (drop_all i bs h)
-
--- The same from the other end, with a name for what is read.
-pub low-back : (bs : List ℕ) (i n : ℕ) → 0 < i → i ≤ length bs → n ≡ low_first (drop i bs) → n * 256 + get_or bs (i - 1) 0 ≡ low_first (drop (i - 1) bs)
-low-back bs i n p l e =
-    let here : i - 1 + 1 ≡ i = omega arith in
-    let more = low-more bs (i - 1) (omega arith) in
-    let same : low_first (drop (i - 1 + 1) bs) ≡ n = ap (λ (k : ℕ). low_first (drop k bs)) here ∙ sym e in omega arith
 
 low-append : (xs ys : List ℕ) → low_first (xs ++ ys) ≡ low_first xs + 256 ^ length xs * low_first ys
 unfolding low_first
@@ -36,38 +33,44 @@ low_zeros (suc k) s =
     let more : 256 ^ suc k * s ≡ 256 * (256 ^ k * s) = ap (λ (p : ℕ). p * s) (pow-succ' 256 k) ∙ mul_assoc 256 (256 ^ k) s in
     let rest = low_zeros k s in omega arith
 
--- The last word of a text.
-pub low-filled : (rest : List ℕ) (n size : ℕ) → n ≡ low_first rest → length rest < 8 → size < 256
-    → n + size * 72057594037927936 ≡ low_first (rest ++ filling size (length rest))
-low-filled rest n size e h k =
+-- How great the number of some bytes can be.
+low_bound : (bs : List ℕ) → ((i : ℕ) → get_or bs i 0 < 256) → low_first bs < 256 ^ length bs
+unfolding low_first
+low_bound [] h = omega arith
+low_bound (b ∷ bs) h =
+    let rest = low_bound bs (λ i. h (suc i)) in
+    let first : b < 256 = h 0 in
+    let more = pow-succ' 256 (length bs) in omega arith
+
+-- The last word of a text: the length stands in its highest byte.
+pub low-filled : (rest : List ℕ) (size : ℕ) → ((i : ℕ) → get_or rest i 0 < 256) → length rest < 8
+    → bit_or (low_first rest) (size * 2 ^ 56 % 2 ^ 64) ≡ low_first (rest ++ filling size (length rest))
+low-filled rest size b h =
+    let k = low_bound rest b in
     let r : ℕ = length rest in
     let seven : r + (7 - r) ≡ 7 = omega arith in
-    let whole : 256 ^ r * 256 ^ (7 - r) ≡ 72057594037927936 = sym (pow-add 256 r (7 - r)) ∙ ap (λ (p : ℕ). 256 ^ p) seven in
-    let top : 256 ^ r * (256 ^ (7 - r) * (size % 256)) ≡ size * 72057594037927936 =
-    sym (mul_assoc (256 ^ r) (256 ^ (7 - r)) (size % 256)) ∙ ap (λ (p : ℕ). p * (size % 256)) whole
-    ∙ ap (λ (p : ℕ). 72057594037927936 * p) (mod-eq_of_lt k) ∙ mul_comm 72057594037927936 size in
+    let whole : 256 ^ r * 256 ^ (7 - r) ≡ 2 ^ 56 = sym (pow-add 256 r (7 - r)) ∙ ap (λ (p : ℕ). 256 ^ p) seven in
+    let few : r ≤ 7 = omega arith in
+    let below : 256 ^ r ≤ 256 ^ 7 = pow-le-pow_right {n = 256} (omega arith) few in
+    let cut : size * 2 ^ 56 % 2 ^ 64 ≡ size % 256 * 2 ^ 56 = omega arith in
+    let top : 256 ^ r * (256 ^ (7 - r) * (size % 256)) ≡ size % 256 * 2 ^ 56 =
+    sym (mul_assoc (256 ^ r) (256 ^ (7 - r)) (size % 256)) ∙ ap (λ (p : ℕ). p * (size % 256)) whole ∙ mul_comm (2 ^ 56) (size % 256) in
     let fill : low_first (filling size r) ≡ 256 ^ (7 - r) * (size % 256) = low_zeros (7 - r) (size % 256) in
-    let all = low-append rest (filling size r) in
-    ap (λ (p : ℕ). p + size * 72057594037927936) e
-    ∙ ap (λ (p : ℕ). low_first rest + p) (sym top ∙ ap (λ (p : ℕ). 256 ^ r * p) (sym fill)) ∙ sym all
+    ap (bit_or (low_first rest)) cut ∙ or_shifted_r (size % 256) 56 (low_first rest) (omega arith)
+    ∙ omega (arith, low-append rest (filling size r), ap (λ (p : ℕ). 256 ^ r * p) fill ∙ top)
 
--- How great the number of some bytes can be.
-pub low_start : (n : ℕ) → 0 < 256 ^ (n - n)
-low_start n = let e : 256 ^ (n - n) ≡ 1 = ap (λ (p : ℕ). 256 ^ p) (none n) in omega arith
-  where
-    none : (n : ℕ) → n - n ≡ 0
-    none n = omega arith
-
-pub low-bound : (n k : ℕ) → n < 256 ^ k → k ≤ 7 → n < 72057594037927936
-low-bound n k h l = let p : 256 ^ k ≤ 256 ^ 7 = pow-le-pow_right {n = 256} (omega arith) l in omega arith
-
-pub low_step : (n b length i : ℕ) → n < 256 ^ (length - i) → b < 256 → 0 < i → i ≤ length → n * 256 + b < 256 ^ (length - (i - 1))
-low_step n b length i h k p l =
-    let e : 256 ^ (length - (i - 1)) ≡ 256 ^ (length - i) * 256 = ap (λ (z : ℕ). 256 ^ z) (one_more length i p l) ∙ pow-suc 256 (length - i) in
-    omega arith
-  where
-    one_more : (length i : ℕ) → 0 < i → i ≤ length → length - (i - 1) ≡ suc (length - i)
-    one_more length i p l = omega arith
+-- The number byte by byte, from the highest.
+pub number-is : (bs : List ℕ) → ((i : ℕ) → get_or bs i 0 < 256) → length bs < 8 → fold (λ n byte. bit_or (n * 2 ^ 8 % 2 ^ 64) byte) 0 (reverse bs) ≡ low_first bs
+unfolding low_first
+number-is [] h l = refl
+number-is (b ∷ bs) h l =
+    let few : length bs ≤ 6 = omega arith in
+    let below : 256 ^ length bs ≤ 256 ^ 6 = pow-le-pow_right {n = 256} (omega arith) few in
+    let bound = low_bound bs (λ i. h (suc i)) in
+    let byte : b < 256 = h 0 in
+    ap (fold _ 0) (reverse-append (b ∷ []) bs) ∙ fold-append _ 0 (reverse bs) (b ∷ [])
+    ∙ ap (λ n. bit_or (n * 2 ^ 8 % 2 ^ 64) b) (number-is bs (λ i. h (suc i)) (omega arith))
+    ∙ ap (λ n. bit_or n b) (mod-eq_of_lt (omega arith)) ∙ or_shifted (low_first bs) 8 b byte ∙ omega arith
 
 -- A word, as the library reads it.
 pub low_eight : (bs : List ℕ) → length bs ≡ 8

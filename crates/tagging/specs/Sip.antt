@@ -1,6 +1,5 @@
 -- SipHash-2-4, as its paper defines it. Assumes nothing.
-use Rattle.std.specs.Prelude.{ℕ, zero, suc, ◌+◌, ◌-◌, ◌*◌, ◌/◌, ◌%◌, List, [], ◌∷◌, ◌++◌, length, take, drop, replicate, bit_xor}
-use Rattle.std.specs.List.{between}
+use Rattle.std.specs.Prelude.{ℕ, zero, suc, ◌+◌, ◌-◌, ◌/◌, ◌%◌, List, [], ◌∷◌, ◌++◌, length, take, drop, replicate, bit_xor}
 use Rattle.tagging.specs.declared.sip.State.{State}
 use Rattle.tagging.specs.Words.{add64, turned, low_first, word_bytes}
 
@@ -58,10 +57,6 @@ joined s = bit_xor (bit_xor (bit_xor s.v0 s.v1) s.v2) s.v3
 
 unfoldable pub finished : State → ℕ
 finished s = joined (sip_round (sip_round (sip_round (sip_round (on_second s 255)))))
-
--- What is left of a text after its whole words.
-abbrev pub rest_of : List ℕ → List ℕ
-rest_of text = between (length text / 8 * 8) (length text) text
 
 -- What fills a text of n bytes up to whole words, r bytes standing in its last: zeros, and as the last byte n modulo 256.
 abbrev pub filling : ℕ → ℕ → List ℕ

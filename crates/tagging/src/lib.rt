@@ -27,8 +27,9 @@ pub fn admit(text: usize, out: usize, work: usize) -> Result<(), Fault>
     Ok(())
 }
 
-// Writes a tag into the middle of an area.
-fn tag_part<T: Tagger>(
+/// Writes the tag of a text into the eight bytes of an area from a place on; every other byte stays.
+#[tactic(auto, using(crate::proofs::Places::part_length, crate::proofs::Places::part_put))]
+pub fn tag_from<T: Tagger>(
     tagger: &T,
     key: &[u8; KEY_BYTES],
     text: &[u8],
@@ -42,22 +43,6 @@ fn tag_part<T: Tagger>(
 {
     let start = place.min(area.len());
     tagger.tag(key, text, &mut area[start..], work)
-}
-
-/// Writes the tag of a text into the eight bytes of an area from a place on; every other byte stays.
-pub fn tag_from<T: Tagger>(
-    tagger: &T,
-    key: &[u8; KEY_BYTES],
-    text: &[u8],
-    area: &mut [u8],
-    place: usize,
-    work: &mut [u8],
-) -> Result<(), Fault>
-    ensures answer { result ≡ tag_answer (length text.now) (length area.old - place) (length work.old) }
-    ensures area { area.new ≡ after result (tag_from place (T.Tagger.tag_of tagger.now key.now text.now) area.old) area.old }
-    ensures clean { work.new ≡ zeros (length work.old) }
-{
-    tag_part(tagger, key, text, area, place, work)
 }
 
 /// A function from a key and a text to a tag.

@@ -37,7 +37,7 @@ fn number(answer: Result<(), Fault>) -> u32
 {
     match answer {
         Ok(()) => 0,
-        Err(fault) => u32::from(fault.case.number()),
+        Err(fault) => u32::from(u8::from(fault.case)),
     }
 }
 

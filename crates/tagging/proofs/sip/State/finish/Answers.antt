@@ -1,6 +1,6 @@
 use Rattle.std.proofs.Common.{rules}
 use Rattle.tagging.specs.Sip.{finished}
-use Rattle.tagging.proofs.sip.finish.Goals as goal
+use Rattle.tagging.proofs.sip.State.finish.Goals as goal
 
 pub returns : goal.returns
 unfolding finished

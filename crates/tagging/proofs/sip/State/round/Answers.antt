@@ -1,6 +1,6 @@
 use Rattle.std.proofs.Common.{ap, ◌∙◌}
 use Rattle.tagging.specs.Sip.{sip_round, second_half}
-use Rattle.tagging.proofs.sip.round.Goals as goal
+use Rattle.tagging.proofs.sip.State.round.Goals as goal
 
 pub returns : goal.returns
 unfolding sip_round

@@ -6,6 +6,7 @@ ghost use Rattle.script.specs.Words.{hex_text};
 ghost use Rattle.reply.specs.Replies.{said, kind_text, kind_letter, text_of, line_text};
 
 use base::{Fault, ROW_BYTES};
+use loader::Image;
 use memory::RowKind;
 use std::alloc::AllocError;
 use std::fmt;
@@ -19,7 +20,7 @@ pub enum Reply {
     Row(RowKind, [u8; ROW_BYTES]),
     Count(u32, u32),
     Rows(Vec<RowKind>),
-    Loaded(u8, u64),
+    Loaded(Image),
 }
 
 // Bytes, with two digits in lower case each.
@@ -95,7 +96,12 @@ impl fmt::Display for Reply {
             }
             Reply::Count(count, ceiling) => write!(f, "{count} of {ceiling}"),
             Reply::Rows(kinds) => Letters(kinds.as_slice()).fmt(f),
-            Reply::Loaded(slot, version) => write!(f, "slot {slot} version {version}"),
+            Reply::Loaded(image) => write!(
+                f,
+                "slot {} version {}",
+                u8::from(image.slot),
+                image.version
+            ),
         }
     }
 }

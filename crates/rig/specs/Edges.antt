@@ -7,6 +7,7 @@ use Rattle.memory.specs.Model.{Row, written, blank, spoilt, Held, Mem, raising}
 use Rattle.memory.specs.declared.RowKind.TheVariants.{Written, Blank, Spoilt}
 use Rattle.reply.specs.Replies.{line_text, refused, count, rows, loaded}
 use Rattle.cells.specs.Strip.{zeros, Legal, three_strip}
+use Rattle.loader.specs.declared.Slot.TheVariants.{First, Second}
 use Rattle.loader.specs.Image.{sum_bytes, whole, loading}
 
 -- A row of zeros but for its eighth byte, where a version ends, and its last word, of bytes a and b.
@@ -46,8 +47,8 @@ pub record ImageEdges : Type 0 where
 -- Which image the loader takes.
 pub record LoadEdges : Type 0 where
   -- both are whole, and slot 1 with a spoilt row
-  pub both : loading (on (image_one ++ image_two)) 2 ≡ Ok (1, 1)
-  pub second : loading (on ((row 1 0 0 ∷ spoilt ∷ []) ++ image_two)) 2 ≡ Ok (2, 2)
+  pub both : loading (on (image_one ++ image_two)) 2 ≡ Ok (record { slot = First; version = 1 })
+  pub second : loading (on ((row 1 0 0 ∷ spoilt ∷ []) ++ image_two)) 2 ≡ Ok (record { slot = Second; version = 2 })
   -- slots of 1 and 65 rows are refused, of 2 and 64 are taken
   pub below : loading blanks 1 ≡ Err (fault_of BadShape Loader)
   pub least : loading blanks 2 ≡ Err (fault_of NoImage Loader)

@@ -3,7 +3,8 @@ use Rattle.std.specs.Prelude.{◌≡◌, ℕ, List, map, replicate, Ok, Err, Res
 use Rattle.base.specs.declared.Fault.{Fault}
 use Rattle.memory.specs.declared.RowKind.{RowKind}
 use Rattle.memory.specs.Model.{Held, Mem, Outcome, kind_of, reading, writing, blanking, raising, powering_up, switching_off}
-use Rattle.loader.specs.Image.{loading}
+use Rattle.loader.specs.declared.Image.{Image}
+use Rattle.loader.specs.Image.{slot_number, loading}
 use Rattle.script.specs.declared.commands.Command.{Command}
 use Rattle.script.specs.declared.commands.Command.TheVariants.{Part, Window, Power, Off, Write, Blank, Raise, Read, Count, Rows, Load}
 use Rattle.reply.specs.declared.Reply.{Reply}
@@ -23,8 +24,8 @@ row_told (Err f) area = refused f
 unfoldable pub read_told : Held → ℕ → Said
 read_told h i = row_told (reading h i (replicate 64 0)).0 (reading h i (replicate 64 0)).1
 
-abbrev pub load_told : Result (ℕ × ℕ) Fault → Said
-load_told (Ok o) = loaded o.0 o.1
+abbrev pub load_told : Result Image Fault → Said
+load_told (Ok image) = loaded (slot_number image.slot) image.version
 load_told (Err f) = refused f
 
 abbrev pub changed : Outcome → Said × Mem

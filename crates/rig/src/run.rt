@@ -8,7 +8,7 @@ ghost use Rattle.rig.specs.Transcript.{obeying, line_done, lines_done, transcrip
 
 use super::desk::Rig;
 use reply::{Reply, print};
-use script::{Command, cleaned, first_line, name, parse};
+use script::{Command, Lines, cleaned, name, parse};
 use std::alloc::{AllocError, Global};
 
 // Performs a command, if there is one.
@@ -39,11 +39,8 @@ fn run_lines(rig: &mut Rig, script: &[u8], out: &mut Vec<u8>) -> Result<(), Allo
     ensures leaves { OnOk result (desk_of rig.new ≡ (lines_done (desk_of rig.old) (lines_of script.now)).1) }
     ensures edges { Edges }
 {
-    let mut rest = script;
-    while !rest.is_empty() {
-        let (line, more) = first_line(rest);
+    for line in Lines::of(script) {
         run_line(rig, cleaned(line), out)?;
-        rest = more;
     }
     Ok(())
 }

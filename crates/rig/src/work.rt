@@ -36,7 +36,7 @@ fn load_image<M: Rows>(memory: &M, slot_rows: u16) -> Reply
     ensures { said result ≡ load_told (loading (M.held memory.now) slot_rows) }
 {
     match load(memory, slot_rows) {
-        Ok((slot, version)) => Reply::Loaded(slot, version),
+        Ok(image) => Reply::Loaded(image),
         Err(fault) => Reply::Refused(fault),
     }
 }

@@ -49,6 +49,7 @@ pub fn add_word(sum: u16, word: u16) -> u16
 }
 
 /// Adds the words of a row, highest byte first, to a running sum.
+#[tactic(auto, using(crate::proofs::Sums::words_sum, crate::proofs::Adding::sum_laws))]
 pub fn add_row(start: u16, row: &[u8; ROW_BYTES]) -> u16
     ensures sum { result ≡ sum_bytes start row.now }
     ensures laws { SumLaws }

@@ -48,6 +48,7 @@ pub(crate) fn agreeing<T: Tagger, P: Fn(&[u8; 16], &[u8]) -> [u8; 8]>(tagger: &T
         state: 88172645463325252,
     };
     let mut count: usize = 0;
+    // Loops, since each text moves the numbers on.
     for len in 0..=LONGEST {
         for _ in 0..TEXTS {
             let key = numbers.bytes();

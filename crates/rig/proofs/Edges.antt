@@ -2,13 +2,13 @@
 use Rattle.std.proofs.Common.{refl}
 use Rattle.memory.specs.Model.{raising}
 use Rattle.std.specs.Fmt.{digits}
-use Rattle.reply.specs.Replies.{numbered, line_text}
+use Rattle.reply.specs.Replies.{line_text}
 use Rattle.cells.proofs.Strips.{three}
 use Rattle.loader.specs.Image.{loading}
 use Rattle.rig.specs.Edges.{Edges}
 
 pub edges : Edges
-unfolding loading raising numbered line_text digits
+unfolding loading raising line_text digits
 edges = record {
   image = record { words = refl; made = refl; over = refl; zeros = refl; bare = refl; filled = refl };
   load = record { both = refl; second = refl; below = refl; least = refl; most = refl; above = refl };

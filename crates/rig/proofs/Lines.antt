@@ -1,5 +1,5 @@
 -- One line more of a script. Assumes nothing.
-use Rattle.std.proofs.Common.{◌≡◌, ℕ, false, cond, eqb, List, [], ◌∷◌, ◌++◌, length, is_ok, IfOk, Ok, Err, Option, Result, sym, refl, ap, ◌∙◌, append_assoc, append-nil, arith}
+use Rattle.std.proofs.Common.{◌≡◌, ℕ, false, cond, eqb, List, [], ◌∷◌, ◌++◌, length, is_ok, IfOk, Ok, Err, Option, Result, sym, ap, ◌∙◌, append_assoc, append-nil}
 use Rattle.std.proofs.lemmas.Bool.{cond-false}
 use Rattle.script.specs.declared.commands.Command.{Command}
 use Rattle.script.specs.Commands.{command_of}
@@ -55,7 +55,6 @@ module _ (start : Desk) (all : List (List ℕ)) (old out : List ℕ) (d : Desk) 
       let a : lines_done d [] ≡ lines_done d rest = ap (lines_done d) (sym e) in
       (sym (append-nil out) ∙ ap (λ (o : List ℕ × Desk). out ++ o.0) a ∙ s.text, ap (λ (o : List ℕ × Desk). o.1) a ∙ s.desk)
 
-pub no_lines : (script : List ℕ) → length script ≡ 0 → lines_of script ≡ []
+pub no_lines : (script : List ℕ) → script ≡ [] → lines_of script ≡ []
 unfolding lines_of
-no_lines [] e = refl
-no_lines (x ∷ xs) e = absurd (omega arith)
+no_lines script e = ap lines_of e

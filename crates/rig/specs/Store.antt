@@ -3,7 +3,6 @@ use Rattle.std.specs.Prelude.{◌≡◌, ℕ, Ok, Err, Result}
 use Rattle.std.specs.Option.{option_map}
 use Rattle.memory.specs.Model.{Mem}
 use Rattle.memory.specs.View.{view_of}
-use Rattle.memory.specs.declared.window.Window.{Window}
 use Rattle.parts.specs.Kinds.{rewriting_means, flash_part_means}
 use Rattle.cells.specs.declared.cell.PlainRow.{PlainRow}
 use Rattle.cells.specs.declared.cell.FlashRow.{FlashRow}

@@ -37,7 +37,6 @@ fn run_line(rig: &mut Rig, line: &[u8], out: &mut Vec<u8>) -> Result<(), AllocEr
 fn run_lines(rig: &mut Rig, script: &[u8], out: &mut Vec<u8>) -> Result<(), AllocError>
     ensures printed { OnOk result (out.new.items ≡ out.old.items ++ (lines_done (desk_of rig.old) (lines_of script.now)).0) }
     ensures leaves { OnOk result (desk_of rig.new ≡ (lines_done (desk_of rig.old) (lines_of script.now)).1) }
-    ensures edges { Edges }
 {
     for line in Lines::of(script) {
         run_line(rig, cleaned(line), out)?;
@@ -46,6 +45,7 @@ fn run_lines(rig: &mut Rig, script: &[u8], out: &mut Vec<u8>) -> Result<(), Allo
 }
 
 /// Runs a script on an empty bench: what it prints, unless memory of the host fails.
+#[tactic(auto, using(crate::proofs::Edges::edges))]
 pub fn transcript(heap: Global, script: &[u8]) -> Result<Vec<u8>, AllocError>
     ensures printed { IfOk result (λ v. v.items ≡ transcript_of script.now) }
     ensures edges { Edges }

@@ -90,12 +90,9 @@ impl fmt::Display for Reply {
                 fault.row_number()
             ),
             Reply::Misuse => f.write_str("misuse"),
-            Reply::Row(kind, bytes) => {
-                f.write_str(kind_text(*kind))?;
-                Hex(bytes).fmt(f)
-            }
+            Reply::Row(kind, bytes) => write!(f, "{}{}", kind_text(*kind), Hex(bytes)),
             Reply::Count(count, ceiling) => write!(f, "{count} of {ceiling}"),
-            Reply::Rows(kinds) => Letters(kinds.as_slice()).fmt(f),
+            Reply::Rows(kinds) => write!(f, "{}", Letters(kinds)),
             Reply::Loaded(image) => write!(
                 f,
                 "slot {} version {}",

@@ -91,6 +91,7 @@ fn named(name: &[u8], words: Words) -> Option<Command>
 }
 
 /// What a cleaned line commands, if it is a command.
+#[tactic(auto, unfolding(crate::specs::Commands::command_of))]
 pub fn parse(line: &[u8]) -> Option<Command>
     ensures { result ≡ command_of line.now }
 {

@@ -62,6 +62,7 @@ fn number(word: &[u8]) -> Option<u64>
     }
 }
 
+// A blanket impl over `TryFrom<u64>` has no `said`: that trait tells what a conversion gives by a relation.
 impl FromWord for u8 {
     ghost said = { bits8 };
 
@@ -93,7 +94,7 @@ fn byte(high: u8, low: u8) -> Option<u8>
     Some(digit(high, HEX)? * HEX + digit(low, HEX)?)
 }
 
-// The bytes of a row are two digits each.
+// The bytes of a row are two digits each. The crate `hex` also takes upper case, which a script refuses.
 impl FromWord for [u8; ROW_BYTES] {
     ghost said = { row_bytes };
 

@@ -1,5 +1,5 @@
 // Fields in bytes: numbers are highest byte first.
-ghost use Rattle.std.specs.Prelude.{◌≡◌, ◌+◌, ◌<◌, cond, length, drop, MatchOption, None, Some, ◌==◌};
+ghost use Rattle.std.specs.Prelude.{◌≡◌, ◌+◌, ◌<◌, length, drop, MatchOption, SomeIff};
 ghost use Rattle.base.specs.Numbers.{leading};
 
 use base::TAG_BYTES;
@@ -15,7 +15,7 @@ pub(crate) fn first_u64(bytes: &[u8]) -> Option<(u64, &[u8])>
 
 // The bytes as a tag, if they are as many.
 pub(crate) fn as_tag(bytes: &[u8]) -> Option<[u8; TAG_BYTES]>
-    ensures { result ≡ cond (length bytes.now == 8) (Some bytes.now) None }
+    ensures { SomeIff result (length bytes.now ≡ 8) bytes.now }
 {
     bytes.as_array::<TAG_BYTES>().copied()
 }

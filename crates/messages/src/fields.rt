@@ -7,7 +7,11 @@ use base::TAG_BYTES;
 // The number in the first eight bytes, and the bytes behind them.
 #[tactic(auto, using(crate::proofs::Words::word_in_front))]
 pub(crate) fn first_u64(bytes: &[u8]) -> Option<(u64, &[u8])>
-    ensures { MatchOption result (length bytes.now < 8) (λ p. (p.0 ≡ leading 8 bytes.now) × (p.1.now ≡ drop 8 bytes.now) × (length p.1.now + 8 ≡ length bytes.now)) }
+    ensures { MatchOption result
+        (length bytes.now < 8)
+        (λ p. (p.0 ≡ leading 8 bytes.now)
+        × (p.1.now ≡ drop 8 bytes.now)
+        × (length p.1.now + 8 ≡ length bytes.now)) }
 {
     let (first, rest) = bytes.split_first_chunk::<8>()?;
     Some((u64::from_be_bytes(*first), rest))

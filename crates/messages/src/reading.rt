@@ -14,7 +14,9 @@ use base::{Case, Fault, Layer, ROW_BYTES};
 
 // What a message of a kind says by the bytes after its first, if they are as many as its kind has.
 fn parse(kind: Kind, rest: &[u8]) -> Option<Message>
-    ensures { SomeIff (option_map meant result) (length rest.now + 1 ≡ (about kind).bytes) (said_by kind rest.now) }
+    ensures { SomeIff (option_map meant result)
+        (length rest.now + 1 ≡ (about kind).bytes)
+        (said_by kind rest.now) }
 {
     match kind {
         Kind::GetStatus => Some(Status::parse(rest)?.into_get_status()),

@@ -1,10 +1,11 @@
 -- Both round trips. Assumes nothing.
-use Rattle.std.proofs.Common.{◌≡◌, ℕ, suc, ◌+◌, ◌^◌, ◌<◌, ◌≤◌, Bool, true, false, cond, eqb, List, [], ◌∷◌, ◌++◌, length, get_or, take, drop, Some, None, Ok, Err, Option, Result, sym, refl, ap, ◌∙◌, subst, arith, w8, Fits}
+use Rattle.std.proofs.Common.{◌≡◌, ℕ, suc, ◌+◌, ◌^◌, ◌<◌, ◌≤◌, Bool, true, false, cond, eqb, List, [], ◌∷◌, ◌++◌, length, get_or, take, drop, Some, None, Ok, Err, Option, Result, ◌==◌, sym, refl, ap, ◌∙◌, subst, arith, w8, Fits}
 use Rattle.std.proofs.lemmas.Int.Digits.{number_lt}
 use Rattle.std.proofs.ByRecursion.{All-from_get_or, All-take, All-drop}
 use Rattle.std.proofs.lemmas.List.{length-append, length-drop, take_all, take_at, drop_at, drop-drop, take-append-drop, length-take-le, nil_from_length}
 use Rattle.std.proofs.lemmas.Bool.{eqb-true}
 use Rattle.std.specs.Int.Digits.{AllBelowBase}
+use Rattle.std.specs.List.{find}
 use Rattle.base.proofs.Bytes.{length-big_endian, leading-big_endian, big_endian-leading}
 use Rattle.base.specs.declared.Fault.{Fault}
 use Rattle.base.specs.Numbers.{leading, big_endian}
@@ -12,11 +13,11 @@ use Rattle.messages.specs.declared.kind.End.{End}
 use Rattle.messages.specs.declared.kind.End.TheVariants.{Terminal, Server}
 use Rattle.messages.specs.declared.kind.Kind.{Kind}
 use Rattle.messages.specs.declared.kind.Kind.TheVariants.{GetStatus, RespondStatus, Update, Reset, Row, Close, UpdateConfirm, UpdateFail, ResetConfirm, Abort}
-use Rattle.messages.specs.Kinds.{about, kind_in, kind_by, kinds, same_end}
+use Rattle.messages.specs.Kinds.{about, kind_by, kinds, same_end}
 use Rattle.messages.specs.Wire.{Said, get_status, respond_status, update, reset, row, close, update_confirm, update_fail, reset_confirm, abort, kind_of, part, number_at, status, said_by, fields_of, bytes_of}
 use Rattle.messages.specs.Codec.{reading_as, reading, written}
 use Rattle.messages.specs.Trips.{WholeStatus, Whole, WritesBack, RoundTrips}
-use Rattle.messages.proofs.Takes.{takes_kind}
+use Rattle.messages.proofs.Takes.{takes_kind, passed}
 
 -- A kind's number leads back to it.
 pub named : (k : Kind) → kind_by (about k).number ≡ Some k
@@ -32,11 +33,11 @@ named ResetConfirm = refl
 named Abort = refl
 
 -- A kind that a number names has that number.
-numbered : (ks : List Kind) (n : ℕ) (k : Kind) → kind_in ks n ≡ Some k → (about k).number ≡ n
+numbered : (ks : List Kind) (n : ℕ) (k : Kind) → find (λ i. n == (about i).number) ks ≡ Some k → (about k).number ≡ n
 numbered [] n k e = absurd (cc)
 numbered (j ∷ ks) n k e = by (eqb n (about j).number) refl (numbered ks n k) e
   where
-    by : (b : Bool) → eqb n (about j).number ≡ b → (kind_in ks n ≡ Some k → (about k).number ≡ n) → cond b (Some j) (kind_in ks n) ≡ Some k → (about k).number ≡ n
+    by : (b : Bool) → eqb n (about j).number ≡ b → (find (λ i. n == (about i).number) ks ≡ Some k → (about k).number ≡ n) → cond b (Some j) (find (λ i. n == (about i).number) ks) ≡ Some k → (about k).number ≡ n
     by true t later f = let same : j ≡ k = cc in ap (λ (i : Kind). (about i).number) (sym same) ∙ sym (eqb-true n (about j).number t)
     by false t later f = later f
 
@@ -191,11 +192,6 @@ said-whole UpdateConfirm rest l u = part-long 0 8 rest (omega arith)
 said-whole UpdateFail rest l u = part-long 0 8 rest (omega arith)
 said-whole ResetConfirm rest l u = part-long 0 8 rest (omega arith)
 said-whole Abort rest l u = tt
-
--- The answer of a test that did not refuse.
-passed : (b : Bool) (x : Result Said Fault) (f : Fault) (s : Said) → cond b x (Err f) ≡ Ok s → (b ≡ true) × (x ≡ Ok s)
-passed true x f s e = (refl, e)
-passed false x f s e = absurd (cc)
 
 -- What was read, by its kind.
 pub record Taken (bs : List ℕ) (s : Said) : Type 0 where

@@ -1,5 +1,5 @@
 -- The fields of a status message, asked or told, apart from its kind. Assumes nothing.
-use Rattle.std.specs.Prelude.{ℕ, cond, List, length, Some, None, Option, ◌==◌}
+use Rattle.std.specs.Prelude.{ℕ, List}
 use Rattle.messages.specs.declared.status.Status.{Status}
 use Rattle.messages.specs.Wire.{part, number_at}
 
@@ -13,7 +13,3 @@ status_at rest =
       other = number_at 24 8 rest;
       tag = part 32 8 rest;
     }
-
--- The fields in bytes that are as many.
-abbrev pub status_in : List ℕ → Option Status
-status_in rest = cond (length rest == 40) (Some (status_at rest)) None

@@ -1,5 +1,6 @@
 -- The kinds of messages: what is said of each stands here and nowhere else. Assumes nothing.
-use Rattle.std.specs.Prelude.{ℕ, Bool, true, false, cond, List, [], ◌∷◌, Some, None, Option, ◌==◌}
+use Rattle.std.specs.Prelude.{ℕ, Bool, true, false, List, [], ◌∷◌, Option, ◌==◌}
+use Rattle.std.specs.List.{find}
 use Rattle.base.specs.declared.Layer.{Layer}
 use Rattle.base.specs.declared.Layer.TheVariants as layer
 use Rattle.messages.specs.declared.kind.End.{End}
@@ -30,12 +31,8 @@ abbrev pub kinds : List Kind
 kinds = GetStatus ∷ RespondStatus ∷ Update ∷ Reset ∷ Row ∷ Close ∷ UpdateConfirm ∷ UpdateFail ∷ ResetConfirm ∷ Abort ∷ []
 
 -- The kind with a number, if there is one.
-abbrev pub kind_in : List Kind → ℕ → Option Kind
-kind_in [] n = None
-kind_in (k ∷ ks) n = cond (n == (about k).number) (Some k) (kind_in ks n)
-
 abbrev pub kind_by : ℕ → Option Kind
-kind_by n = kind_in kinds n
+kind_by n = find (λ k. n == (about k).number) kinds
 
 -- The layer of an end's own refusals.
 abbrev pub layer_of : End → Layer

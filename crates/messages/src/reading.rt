@@ -1,5 +1,5 @@
 // Reading a message.
-ghost use Rattle.std.specs.Prelude.{◌≡◌, suc, cond, length, None, Some, ◌==◌};
+ghost use Rattle.std.specs.Prelude.{◌≡◌, ◌+◌, length, Some, SomeIff};
 ghost use Rattle.std.specs.Option.{option_map};
 ghost use Rattle.messages.specs.Kinds.{about};
 ghost use Rattle.messages.specs.Wire.{meant, said_by};
@@ -14,7 +14,9 @@ use base::{Case, Fault, Layer, ROW_BYTES};
 
 // What a message of a kind says by the bytes after its first, if they are as many as its kind has.
 fn parse(kind: Kind, rest: &[u8]) -> Option<Message>
-    ensures { option_map meant result ≡ cond (suc (length rest.now) == (about kind).bytes) (Some (said_by kind rest.now)) None }
+    ensures { SomeIff (option_map meant result)
+        (length rest.now + 1 ≡ (about kind).bytes)
+        (said_by kind rest.now) }
 {
     match kind {
         Kind::GetStatus => Some(Status::parse(rest)?.into_get_status()),

@@ -1,8 +1,8 @@
 // The fields that both kinds of status messages have, asked and told.
-ghost use Rattle.std.specs.Prelude.{◌≡◌, length};
+ghost use Rattle.std.specs.Prelude.{◌≡◌, length, SomeIff};
 ghost use Rattle.messages.specs.Wire.{meant, get_status, respond_status, status};
 ghost use Rattle.messages.specs.Trips.{WholeStatus};
-ghost use Rattle.messages.specs.Fields.{status_in};
+ghost use Rattle.messages.specs.Fields.{status_at};
 
 use crate::fields::{as_tag, first_u64};
 use crate::message::Message;
@@ -22,7 +22,7 @@ pub(crate) struct Status {
 impl Status {
     // The fields, one after the other, if the bytes are as many.
     pub(crate) fn parse(rest: &[u8]) -> Option<Status>
-        ensures { result ≡ status_in rest.now }
+        ensures { SomeIff result (length rest.now ≡ 40) (status_at rest.now) }
     {
         let (version, rest) = first_u64(rest)?;
         let (identity, rest) = rest.split_first_chunk::<IDENTITY_BYTES>()?;

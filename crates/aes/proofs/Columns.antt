@@ -2,8 +2,8 @@
 use Rattle.std.proofs.Common.{◌≡◌, ℕ, List, [], ◌∷◌, ◌++◌, refl, ap, ◌∙◌}
 use lib.Bits.{bit_xor}
 use Rattle.aes.specs.Cipher.{xored, shift_rows, mix_column, mix_columns, one_round, last_round, turned, next_key}
-use Rattle.aes.specs.declared.block.Block.{Block}
-use Rattle.aes.specs.Words.{word_bytes, bytes_of, round_columns, last_columns, round_column, last_column}
+use Rattle.aes.specs.declared.block.Block.TheInside.{Inside}
+use Rattle.aes.specs.Words.{word_bytes, bytes_of, round_column, last_column}
 use Rattle.aes.proofs.Rules.{first_part, second_part, third_part, fourth_part}
 use Rattle.aes.proofs.Words.{xor_word, joined}
 
@@ -24,11 +24,24 @@ mixed_is s t u v p q r w k a b c d =
     ∙ ap (λ (x : List ℕ). xored (xored (first_part s) (second_part t)) x) c)
     ∙ ap (λ (x : List ℕ). xored (xored (xored (first_part s) (second_part t)) (third_part u)) x) d)
 
-pub round_is : (s k : Block) → round_columns s k ≡ one_round (bytes_of s) (bytes_of k)
+-- A round and the last round, column by column.
+abbrev pub round_columns : Inside → Inside → List ℕ
+round_columns s k =
+    round_column s.a s.b s.c s.d k.a
+    ++ (round_column s.b s.c s.d s.a k.b
+    ++ (round_column s.c s.d s.a s.b k.c ++ round_column s.d s.a s.b s.c k.d))
+
+abbrev pub last_columns : Inside → Inside → List ℕ
+last_columns s k =
+    last_column s.a s.b s.c s.d k.a
+    ++ (last_column s.b s.c s.d s.a k.b
+    ++ (last_column s.c s.d s.a s.b k.c ++ last_column s.d s.a s.b s.c k.d))
+
+pub round_is : (s k : Inside) → round_columns s k ≡ one_round (bytes_of s) (bytes_of k)
 unfolding one_round shift_rows mix_column mix_columns round_column word_bytes
 round_is s k = refl
 
-pub last_is : (s k : Block) → last_columns s k ≡ last_round (bytes_of s) (bytes_of k)
+pub last_is : (s k : Inside) → last_columns s k ≡ last_round (bytes_of s) (bytes_of k)
 unfolding last_round shift_rows last_column word_bytes
 last_is s k = refl
 

@@ -1,14 +1,14 @@
 -- The shift of a block, the chain of blocks, and the padding. Assumes nothing.
-use Rattle.std.proofs.Common.{◌≡◌, ℕ, suc, ◌+◌, ◌-◌, ◌*◌, ◌/◌, ◌%◌, ◌<◌, List, [], ◌∷◌, ◌++◌, length, take, drop, set, replicate, sym, refl, ap, ◌∙◌, mod-eq_of_lt, arith}
-use Rattle.std.specs.Prelude.{bit_xor, slice_set}
+use Rattle.std.proofs.Common.{◌≡◌, ℕ, zero, suc, ◌+◌, ◌-◌, ◌*◌, ◌/◌, ◌%◌, ◌<◌, ◌≤◌, List, [], ◌∷◌, ◌++◌, length, take, drop, set, replicate, sym, refl, ap, ◌∙◌, mod-eq_of_lt, arith}
+use Rattle.std.specs.Prelude.{bit_xor, slice_set, fold}
+use Rattle.std.specs.Simd.{first_chunks}
 use Rattle.std.proofs.Math.Nat.{div-div-eq-div-mul}
 use Rattle.std.specs.Int.Bits.{xor_zero_r}
-use Rattle.std.proofs.lemmas.List.{drop-drop, drop-replicate, set_at}
+use Rattle.std.proofs.lemmas.List.{drop-replicate, set_at}
 use Rattle.std.proofs.lemmas.Nat.{div-add-mod'}
-use Rattle.aes.specs.Cipher.{xored, ciphered}
-use Rattle.aes.specs.declared.block.Block.{Block}
+use Rattle.aes.specs.Cipher.{xored}
 use Rattle.aes.specs.Mac.{doubled, padded, chained}
-use Rattle.aes.specs.Words.{word_bytes, bytes_of}
+use Rattle.aes.specs.Words.{word_bytes}
 use Rattle.aes.proofs.Words.{xor_word, of_bytes, joined}
 
 -- The bytes of a word shifted by one bit, with a bit that comes in.
@@ -91,34 +91,27 @@ doubled_is a b c d ha hb hc hd =
     joined (shl_word a (b / 2147483648) ha (omega arith) ∙ ap (shl a) (top b hb)) (shl_word b (c / 2147483648) hb (omega arith) ∙ ap (shl b) (top c hc))
     (shl_word c (d / 2147483648) hc (omega arith) ∙ ap (shl c) (top d hd)) (last a d ha hd)
 
--- A block more is chained.
-pub chained_more : (n i : ℕ) (x y b : Block) (ks text : List ℕ) → i < n → bytes_of b ≡ take 16 (drop (i * 16) text) → bytes_of y ≡ ciphered ks (xored (bytes_of x) (bytes_of b))
-    → chained (ciphered ks) (n - (i + 1)) (bytes_of y) (drop ((i + 1) * 16) text) ≡ chained (ciphered ks) (n - i) (bytes_of x) (drop (i * 16) text)
-chained_more n i x y b ks text h e f =
-    let g : bytes_of y ≡ ciphered ks (xored (bytes_of x) (take 16 (drop (i * 16) text))) = f ∙ ap (λ (z : List ℕ). ciphered ks (xored (bytes_of x) z)) e in
-    let t : drop ((i + 1) * 16) text ≡ drop 16 (drop (i * 16) text) = ap (λ (z : ℕ). drop z text) (times i) ∙ sym (drop-drop 16 (i * 16) text) in
-    ap (λ (z : List ℕ). chained (ciphered ks) (n - (i + 1)) z (drop ((i + 1) * 16) text)) g
-    ∙ ap (λ (z : List ℕ). chained (ciphered ks) (n - (i + 1)) (ciphered ks (xored (bytes_of x) (take 16 (drop (i * 16) text)))) z) t
-    ∙ ap (λ (z : ℕ). chained (ciphered ks) z (bytes_of x) (drop (i * 16) text)) (left_one n i h)
-  where
-    times : (i : ℕ) → (i + 1) * 16 ≡ i * 16 + 16
-    times i = omega arith
+-- The blocks of a text before some place.
+take-chunks : (k m : ℕ) (text : List ℕ) → k ≤ m → take k (first_chunks 16 m text) ≡ first_chunks 16 k text
+take-chunks zero m text h = refl
+take-chunks (suc k) zero text h = absurd (omega arith)
+take-chunks (suc k) (suc m) text h = ap (λ bs. take 16 text ∷ bs) (take-chunks k m (drop 16 text) (omega arith))
 
-    left_one : (n i : ℕ) → i < n → suc (n - (i + 1)) ≡ n - i
-    left_one n i h = omega arith
+chained_is : (cipher : List ℕ → List ℕ) (k : ℕ) (x text : List ℕ) → fold (λ y block. cipher (xored y block)) x (first_chunks 16 k text) ≡ chained cipher k x text
+chained_is cipher zero x text = refl
+chained_is cipher (suc k) x text = chained_is cipher k (cipher (xored x (take 16 text))) (drop 16 text)
+
+pub blocks-chained : (cipher : List ℕ → List ℕ) (k : ℕ) (x text : List ℕ) (bs : List (List ℕ)) → bs ≡ first_chunks 16 (length text / 16) text → k ≤ length text / 16
+    → fold (λ y block. cipher (xored y block)) x (take k bs) ≡ chained cipher k x text
+blocks-chained cipher k x text bs e h =
+    ap (λ z. fold (λ y block. cipher (xored y block)) x z) (ap (take k) e ∙ take-chunks k (length text / 16) text h) ∙ chained_is cipher k x text
 
 -- The rest of a text in a cleared area, and one bit behind it.
-pub padded_is : (rest ys zs : List ℕ) (n : ℕ) → n ≡ 16 → length rest < 16 → ys ≡ rest → zs ≡ replicate n 0
-    → slice_set (ys ++ drop (length rest - 0) zs) (length rest) 128 ≡ padded rest
-padded_is rest ys zs n q h e f =
-    ap (λ (z : List ℕ). set (z ++ drop (length rest - 0) zs) (length rest) 128) e
-    ∙ ap (λ (z : List ℕ). set (rest ++ drop (length rest - 0) z) (length rest) 128) (f ∙ ap (λ (k : ℕ). replicate k 0) q)
-    ∙ ap (λ (k : ℕ). set (rest ++ drop k (replicate 16 0)) (length rest) 128) (same (length rest))
-    ∙ ap (λ (z : List ℕ). set (rest ++ z) (length rest) 128) (drop-replicate (length rest) 16 0 ∙ ap (λ (k : ℕ). replicate k 0) (more (length rest) h))
+pub padded_is : (rest ys zs : List ℕ) → length rest < 16 → ys ≡ rest → zs ≡ replicate 16 0
+    → slice_set (ys ++ drop (length rest) zs) (length rest) 128 ≡ padded rest
+padded_is rest ys zs h e f =
+    let more : 16 - length rest ≡ suc (15 - length rest) = omega arith in
+    ap (λ z. set (z ++ drop (length rest) zs) (length rest) 128) e
+    ∙ ap (λ z. set (rest ++ drop (length rest) z) (length rest) 128) f
+    ∙ ap (λ z. set (rest ++ z) (length rest) 128) (drop-replicate (length rest) 16 0 ∙ ap (λ k. replicate k 0) more)
     ∙ set_at rest 0 (replicate (15 - length rest) 0) 128 (length rest) refl
-  where
-    same : (n : ℕ) → n - 0 ≡ n
-    same n = omega arith
-
-    more : (n : ℕ) → n < 16 → 16 - n ≡ suc (15 - n)
-    more n h = omega arith

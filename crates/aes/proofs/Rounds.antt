@@ -1,61 +1,49 @@
--- The loops over the round keys and over the rounds. Assumes nothing.
-use Rattle.std.proofs.Common.{◌≡◌, ℕ, suc, ◌+◌, ◌-◌, ◌*◌, ◌<◌, ◌≤◌, List, [], ◌++◌, length, take, drop, sym, refl, ap, ◌∙◌, append_assoc, append-nil, arith}
-use borrow.Rule.Slice.PartMut.{put_mid}
-use Rattle.std.proofs.lemmas.List.{drop-drop, drop_all}
-use Rattle.std.proofs.lemmas.Slice.{take-put_mid}
+-- The round keys, and the rounds under them, one after the other. Assumes nothing.
+use Rattle.std.proofs.Common.{◌≡◌, ℕ, zero, suc, ◌+◌, ◌-◌, ◌<◌, ◌≤◌, List, [], ◌∷◌, ◌++◌, length, get_or, take, drop, set, refl, sym, ap, ◌∙◌, append_assoc, append-nil, arith}
+use Rattle.std.specs.Prelude.{fold}
+use Rattle.std.proofs.lemmas.List.{take_all, take_more_set}
 use Rattle.aes.specs.Field.{xtime}
-use Rattle.aes.specs.Cipher.{next_key, keys_from, one_round, last_round, rounds}
-use Rattle.aes.specs.declared.block.Block.{Block}
-use Rattle.aes.specs.Words.{word_bytes, bytes_of, round_columns, last_columns}
-use Rattle.aes.proofs.Columns.{round_is, last_is}
+use Rattle.aes.specs.Cipher.{next_key, keys_from, one_round, last_round, rounds, xored, ciphered}
 
-pub length-bytes : (b : Block) → length (bytes_of b) ≡ 16
-unfolding word_bytes
-length-bytes b = refl
+-- A round key and those after it, n in all.
+unfoldable pub key_list : ℕ → ℕ → List ℕ → List (List ℕ)
+key_list zero rcon k = []
+key_list (suc n) rcon k = k ∷ key_list n (xtime rcon) (next_key rcon k)
 
--- One more is done, one less is left.
-left_one : (i : ℕ) → i < 10 → suc (10 - (i + 1)) ≡ 10 - i
-left_one i h = omega arith
-
-left-none : (i : ℕ) → 10 ≤ i → 0 ≡ 10 - i
-left-none i h = omega arith
+pub key_list-from : (n rcon : ℕ) (k : List ℕ) → key_list (suc n) rcon k ≡ keys_from n rcon k
+unfolding key_list
+key_list-from zero rcon k = refl
+key_list-from (suc n) rcon k = ap (λ ks. k ∷ ks) (key_list-from n (xtime rcon) (next_key rcon k))
 
 -- A round key is written behind those before it.
-pub keys_more : (i k rcon r : ℕ) (key next xs ys : List ℕ) → i < 10 → length xs ≡ 176 → ys ≡ key → length key ≡ 16 → r ≡ xtime rcon → next ≡ next_key rcon key
-    → take (16 * (i + 1)) (put_mid (16 * i) k xs ys) ++ keys_from (10 - (i + 1)) r next ≡ take (16 * i) xs ++ keys_from (10 - i) rcon key
-keys_more i k rcon r key next xs ys h l e n f g =
-    let m : length ys ≡ 16 = ap length e ∙ n in
-    ap (λ (z : List ℕ). z ++ keys_from (10 - (i + 1)) r next) (take-put_mid (16 * i) k xs ys (16 * (i + 1)) (omega arith) (omega arith))
-    ∙ append_assoc (take (16 * i) xs) ys (keys_from (10 - (i + 1)) r next)
-    ∙ ap (λ (z : List ℕ). take (16 * i) xs ++ (z ++ keys_from (10 - (i + 1)) r next)) e
-    ∙ ap (λ (z : ℕ). take (16 * i) xs ++ (key ++ keys_from (10 - (i + 1)) z next)) f
-    ∙ ap (λ (z : List ℕ). take (16 * i) xs ++ (key ++ keys_from (10 - (i + 1)) (xtime rcon) z)) g
-    ∙ ap (λ (z : ℕ). take (16 * i) xs ++ keys_from z rcon key) (left_one i h)
+pub keys_step : (i rcon r : ℕ) (k x next : List ℕ) (ks : List (List ℕ)) → i < 11 → length ks ≡ 11 → x ≡ k → r ≡ xtime rcon → next ≡ next_key rcon k
+    → take (i + 1) (set ks i x) ++ key_list (11 - (i + 1)) r next ≡ take i ks ++ key_list (11 - i) rcon k
+unfolding key_list
+keys_step i rcon r k x next ks h l e f g =
+    let more : suc (11 - (i + 1)) ≡ 11 - i = omega arith in
+    ap (λ z. z ++ key_list (11 - (i + 1)) r next) (take_more_set ks i x (omega arith))
+    ∙ append_assoc (take i ks) (x ∷ []) (key_list (11 - (i + 1)) r next)
+    ∙ ap (λ z. take i ks ++ (z ∷ key_list (11 - (i + 1)) r next)) e
+    ∙ ap (λ z. take i ks ++ (k ∷ key_list (11 - (i + 1)) z next)) f
+    ∙ ap (λ z. take i ks ++ (k ∷ key_list (11 - (i + 1)) (xtime rcon) z)) g
+    ∙ ap (λ n. take i ks ++ key_list n rcon k) more
 
--- The last round key fills the area.
-pub keys_end : (i rcon : ℕ) (key xs ys : List ℕ) → i ≡ 10 → length xs ≡ 176 → ys ≡ key
-    → put_mid 160 16 xs ys ≡ take (16 * i) xs ++ keys_from (10 - i) rcon key
-keys_end i rcon key xs ys h l e =
-    let none : drop 16 (drop 160 xs) ≡ [] = drop-drop 16 160 xs ∙ drop_all 176 xs (omega arith) in
-    ap (λ (z : List ℕ). take 160 xs ++ (ys ++ z)) none
-    ∙ ap (λ (z : List ℕ). take 160 xs ++ z) (append-nil ys ∙ e)
-    ∙ ap (λ (z : ℕ). take (16 * z) xs ++ keys_from (10 - z) rcon key) (sym h)
+-- All are written.
+pub keys_all : (i rcon : ℕ) (k : List ℕ) (ks : List (List ℕ)) → 11 ≤ i → length ks ≡ 11 → ks ≡ take i ks ++ key_list (11 - i) rcon k
+unfolding key_list
+keys_all i rcon k ks h l =
+    let none : 0 ≡ 11 - i = omega arith in
+    sym (append-nil ks) ∙ ap (λ z. z ++ []) (sym (take_all i ks (omega arith))) ∙ ap (λ n. take i ks ++ key_list n rcon k) none
 
--- A round takes the next round key.
-pub rounds-more : (i : ℕ) (s s' k : Block) (ks : List ℕ) → i < 10 → bytes_of k ≡ take 16 (drop (16 * i) ks) → bytes_of s' ≡ round_columns s k
-    → rounds (10 - (i + 1)) (bytes_of s') (drop (16 * (i + 1)) ks) ≡ rounds (10 - i) (bytes_of s) (drop (16 * i) ks)
-rounds-more i s s' k ks h e f =
-    let g : bytes_of s' ≡ one_round (bytes_of s) (take 16 (drop (16 * i) ks)) = f ∙ round_is s k ∙ ap (one_round (bytes_of s)) e in
-    let t : drop (16 * (i + 1)) ks ≡ drop 16 (drop (16 * i) ks) = ap (λ (z : ℕ). drop z ks) (times i) ∙ sym (drop-drop 16 (16 * i) ks) in
-    ap (λ (z : List ℕ). rounds (10 - (i + 1)) z (drop (16 * (i + 1)) ks)) g
-    ∙ ap (λ (z : List ℕ). rounds (10 - (i + 1)) (one_round (bytes_of s) (take 16 (drop (16 * i) ks))) z) t
-    ∙ ap (λ (z : ℕ). rounds z (bytes_of s) (drop (16 * i) ks)) (left_one i h)
-  where
-    times : (i : ℕ) → 16 * (i + 1) ≡ 16 * i + 16
-    times i = omega arith
+-- The rounds, and the last one.
+rounds_are : (n : ℕ) (s : List ℕ) (ks : List (List ℕ)) → n < length ks → last_round (fold one_round s (take n ks)) (get_or ks n []) ≡ rounds n s ks
+rounds_are n s [] h = absurd (omega arith)
+rounds_are zero s (k ∷ ks) h = refl
+rounds_are (suc n) s (k ∷ ks) h = rounds_are n (one_round s k) ks (omega arith)
 
-pub rounds_end : (i : ℕ) (s s' k : Block) (ks : List ℕ) → i ≡ 10 → bytes_of k ≡ take 16 (drop 160 ks) → bytes_of s' ≡ last_columns s k
-    → bytes_of s' ≡ rounds (10 - i) (bytes_of s) (drop (16 * i) ks)
-rounds_end i s s' k ks h e f =
-    f ∙ last_is s k ∙ ap (last_round (bytes_of s)) e
-    ∙ ap (λ (z : ℕ). rounds (10 - z) (bytes_of s) (drop (16 * z) ks)) (sym h)
+-- A block under eleven round keys.
+pub ciphered_is : (ks : List (List ℕ)) (b : List ℕ) → length ks ≡ 11
+    → last_round (fold one_round (xored b (get_or ks 0 [])) (take 9 (drop 1 ks))) (get_or ks 10 []) ≡ ciphered ks b
+unfolding ciphered
+ciphered_is [] b l = absurd (omega arith)
+ciphered_is (k ∷ ks) b l = rounds_are 9 (xored b k) ks (omega arith)

@@ -1,8 +1,11 @@
 -- Words and their bytes. Assumes nothing.
-use Rattle.std.specs.Prelude.{◌≡◌, ℕ, ◌+◌, ◌*◌, ◌/◌, ◌%◌, ◌^◌, ◌<◌, ◌≤◌, List, [], ◌∷◌, ◌++◌, length, take, drop, bit_xor, slice_index}
-use Rattle.std.proofs.Common.{sym, ap, ◌∙◌, arith, drop-drop, take-add}
-use Rattle.std.proofs.lemmas.Nat.{xor_shr, xor_mod}
-use Rattle.std.proofs.lemmas.List.{drop_more}
+use Rattle.std.specs.Prelude.{◌≡◌, ℕ, ◌+◌, ◌*◌, ◌/◌, ◌%◌, ◌^◌, ◌<◌, ◌≤◌, List, [], ◌∷◌, ◌++◌, length, take, drop, bit_xor, refl}
+use Rattle.std.specs.Int.{w32, from_be_bytes}
+use Rattle.std.specs.Simd.{first_chunks}
+use Rattle.std.proofs.Common.{get_or, ap, ◌∙◌, inl, inr, arith, length-drop}
+use Rattle.std.proofs.lemmas.Nat.{xor_shr, xor_mod, be_bytes_4}
+use Rattle.std.proofs.lemmas.List.{take_all, take-append-drop, get_or-take, get_or-drop, length-take-le, get_or_past}
+use Rattle.std.proofs.lemmas.Bool.{cases_lt}
 use Rattle.aes.specs.Cipher.{xored}
 use Rattle.aes.specs.Words.{word_bytes}
 
@@ -40,31 +43,43 @@ pub xor_block : (a b c d e f g h : ℕ)
 unfolding word_bytes
 xor_block a b c d e f g h = joined (xor_word a e) (xor_word b f) (xor_word c g) (xor_word d h)
 
--- The four elements from a place on.
-pub four_at : (place : ℕ) (xs : List ℕ) → place + 4 ≤ length xs
-    → take 4 (drop place xs) ≡ slice_index xs place ∷ slice_index xs (place + 1) ∷ slice_index xs (place + 2) ∷ slice_index xs (place + 3) ∷ []
-four_at place xs h =
-    ap (take 4) (drop_more xs place 0 (omega arith))
-    ∙ ap (λ (ys : List ℕ). slice_index xs place ∷ take 3 ys) (drop_more xs (place + 1) 0 (omega arith) ∙ ap (λ (k : ℕ). slice_index xs (place + 1) ∷ drop k xs) (omega arith))
-    ∙ ap (λ (ys : List ℕ). slice_index xs place ∷ slice_index xs (place + 1) ∷ take 2 ys) (drop_more xs (place + 2) 0 (omega arith) ∙ ap (λ (k : ℕ). slice_index xs (place + 2) ∷ drop k xs) (omega arith))
-    ∙ ap (λ (ys : List ℕ). slice_index xs place ∷ slice_index xs (place + 1) ∷ slice_index xs (place + 2) ∷ take 1 ys) (drop_more xs (place + 3) 0 (omega arith))
+-- Whether the elements are bytes.
+abbrev pub Bytes : List ℕ → Type 0
+Bytes bs = (i : ℕ) → get_or bs i 0 < 256
 
--- Sixteen elements in four parts.
-pub sixteen-at : (place : ℕ) (xs : List ℕ)
-    → take 4 (drop place xs) ++ (take 4 (drop (place + 4) xs) ++ (take 4 (drop (place + 8) xs) ++ take 4 (drop (place + 12) xs))) ≡ take 16 (drop place xs)
-sixteen-at place xs =
-    let b : drop (place + 4) xs ≡ drop 4 (drop place xs) = sym (drop-drop 4 place xs) in
-    let c : drop (place + 8) xs ≡ drop 8 (drop place xs) = sym (drop-drop 8 place xs) in
-    let d : drop (place + 12) xs ≡ drop 12 (drop place xs) = sym (drop-drop 12 place xs) in
-    ap (λ (ys : List ℕ). take 4 (drop place xs) ++ (take 4 ys ++ (take 4 (drop (place + 8) xs) ++ take 4 (drop (place + 12) xs)))) b
-    ∙ ap (λ (ys : List ℕ). take 4 (drop place xs) ++ (take 4 (drop 4 (drop place xs)) ++ (take 4 ys ++ take 4 (drop (place + 12) xs)))) c
-    ∙ ap (λ (ys : List ℕ). take 4 (drop place xs) ++ (take 4 (drop 4 (drop place xs)) ++ (take 4 (drop 8 (drop place xs)) ++ take 4 ys))) d
-    ∙ sym (in_four (drop place xs))
+bytes-drop : (bs : List ℕ) → Bytes bs → Bytes (drop 4 bs)
+bytes-drop bs h i = omega (arith, get_or-drop 4 bs i 0, h (4 + i))
+
+-- Four bytes write a word that has those bytes.
+word_is : (bs : List ℕ) → 4 ≤ length bs → Bytes bs → word_bytes (from_be_bytes w32 (take 4 bs)) ≡ take 4 bs
+unfolding word_bytes
+word_is bs l h = be_bytes_4 (take 4 bs) (from_be_bytes w32 (take 4 bs)) (length-take-le 4 bs l) byte refl
   where
-    in_four : (ys : List ℕ) → take 16 ys ≡ take 4 ys ++ (take 4 (drop 4 ys) ++ (take 4 (drop 8 ys) ++ take 4 (drop 12 ys)))
-    in_four ys =
-        take-add 4 12 ys
-        ∙ ap (λ (zs : List ℕ). take 4 ys ++ zs) (take-add 4 8 (drop 4 ys))
-        ∙ ap (λ (zs : List ℕ). take 4 ys ++ (take 4 (drop 4 ys) ++ take 8 zs)) (drop-drop 4 4 ys)
-        ∙ ap (λ (zs : List ℕ). take 4 ys ++ (take 4 (drop 4 ys) ++ zs)) (take-add 4 4 (drop 8 ys))
-        ∙ ap (λ (zs : List ℕ). take 4 ys ++ (take 4 (drop 4 ys) ++ (take 4 (drop 8 ys) ++ take 4 zs))) (drop-drop 4 8 ys)
+    byte : Bytes (take 4 bs)
+    byte i = elim (cases_lt i 4) [ inl p ↦ omega (arith, get_or-take 4 bs i 0 p, h i) | inr p ↦ omega (arith, get_or_past (take 4 bs) i 0 (omega (arith, length-take-le 4 bs l))) ]
+
+-- Sixteen bytes, four at a time.
+pub in_four : (bs : List ℕ) → length bs ≡ 16
+    → take 4 bs ++ (take 4 (drop 4 bs) ++ (take 4 (drop 4 (drop 4 bs)) ++ take 4 (drop 4 (drop 4 (drop 4 bs))))) ≡ bs
+in_four bs l =
+    let c = drop 4 (drop 4 bs) in
+    let last : take 4 (drop 4 c) ≡ drop 4 c = take_all 4 (drop 4 c) (simp length-drop (omega arith)) in
+    ap (λ xs. take 4 bs ++ (take 4 (drop 4 bs) ++ (take 4 c ++ xs))) last
+    ∙ ap (λ xs. take 4 bs ++ (take 4 (drop 4 bs) ++ xs)) (take-append-drop 4 c)
+    ∙ ap (λ xs. take 4 bs ++ xs) (take-append-drop 4 (drop 4 bs))
+    ∙ take-append-drop 4 bs
+
+-- The block of sixteen bytes.
+pub block_is : (bs : List ℕ) (ws : List (List ℕ)) → length bs ≡ 16 → Bytes bs → ws ≡ first_chunks 4 (length bs / 4) bs
+    → word_bytes (from_be_bytes w32 (get_or ws 0 [])) ++ (word_bytes (from_be_bytes w32 (get_or ws 1 []))
+    ++ (word_bytes (from_be_bytes w32 (get_or ws 2 [])) ++ word_bytes (from_be_bytes w32 (get_or ws 3 [])))) ≡ bs
+block_is bs ws l h e =
+    let four : ws ≡ first_chunks 4 4 bs = e ∙ ap (λ n. first_chunks 4 (n / 4) bs) l in
+    let h1 = bytes-drop bs h in
+    let h2 = bytes-drop (drop 4 bs) h1 in
+    let h3 = bytes-drop (drop 4 (drop 4 bs)) h2 in
+    ap (λ xs. word_bytes (from_be_bytes w32 (get_or xs 0 [])) ++ (word_bytes (from_be_bytes w32 (get_or xs 1 []))
+    ++ (word_bytes (from_be_bytes w32 (get_or xs 2 [])) ++ word_bytes (from_be_bytes w32 (get_or xs 3 []))))) four
+    ∙ joined (word_is bs (omega arith) h) (word_is (drop 4 bs) (simp length-drop (omega arith)) h1)
+    (word_is (drop 4 (drop 4 bs)) (simp length-drop (omega arith)) h2) (word_is (drop 4 (drop 4 (drop 4 bs))) (simp length-drop (omega arith)) h3)
+    ∙ in_four bs l

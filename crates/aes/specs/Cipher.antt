@@ -64,12 +64,12 @@ unfoldable pub next_key : ℕ → List ℕ → List ℕ
 next_key rcon k = word0 rcon k ++ (word1 rcon k ++ (word2 rcon k ++ word3 rcon k))
 
 -- A round key and the n after it.
-abbrev pub keys_from : ℕ → ℕ → List ℕ → List ℕ
-keys_from zero rcon k = k
-keys_from (suc n) rcon k = k ++ keys_from n (xtime rcon) (next_key rcon k)
+abbrev pub keys_from : ℕ → ℕ → List ℕ → List (List ℕ)
+keys_from zero rcon k = k ∷ []
+keys_from (suc n) rcon k = k ∷ keys_from n (xtime rcon) (next_key rcon k)
 
 -- KeyExpansion: the eleven round keys.
-unfoldable pub expanded : List ℕ → List ℕ
+unfoldable pub expanded : List ℕ → List (List ℕ)
 expanded key = keys_from 10 1 key
 
 -- A round under a round key, and the last round, which mixes no columns.
@@ -79,14 +79,19 @@ one_round s k = xored (mix_columns (shift_rows (sub_bytes s))) k
 unfoldable pub last_round : List ℕ → List ℕ → List ℕ
 last_round s k = xored (shift_rows (sub_bytes s)) k
 
+-- The first of some round keys.
+abbrev pub first_key : List (List ℕ) → List ℕ
+first_key [] = []
+first_key (k ∷ ks) = k
+
 -- n rounds and the last one, under the round keys ks.
-abbrev pub rounds : ℕ → List ℕ → List ℕ → List ℕ
-rounds zero s ks = last_round s (take 16 ks)
-rounds (suc n) s ks = rounds n (one_round s (take 16 ks)) (drop 16 ks)
+abbrev pub rounds : ℕ → List ℕ → List (List ℕ) → List ℕ
+rounds zero s ks = last_round s (first_key ks)
+rounds (suc n) s ks = rounds n (one_round s (first_key ks)) (drop 1 ks)
 
 -- Cipher: a block under the round keys ks.
-unfoldable pub ciphered : List ℕ → List ℕ → List ℕ
-ciphered ks block = rounds 9 (xored block (take 16 ks)) (drop 16 ks)
+unfoldable pub ciphered : List (List ℕ) → List ℕ → List ℕ
+ciphered ks block = rounds 9 (xored block (first_key ks)) (drop 1 ks)
 
 -- AES-128: a block under a key.
 abbrev pub aes : List ℕ → List ℕ → List ℕ

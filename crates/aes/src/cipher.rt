@@ -1,20 +1,20 @@
 // AES-128: the round keys, the rounds, and a block under a key.
-ghost use Rattle.std.specs.Prelude.{◌≡◌, ◌≤◌, length, OnOk};
+ghost use Rattle.std.specs.Prelude.{◌≡◌, ◌<◌, ◌≤◌, length, fold, IfOk, IfErr};
+ghost use Rattle.base.specs.Faults.{fault};
+ghost use Rattle.base.specs.declared.Case.TheVariants.{ShortArea};
+ghost use Rattle.base.specs.declared.Layer.TheVariants.{Common};
 ghost use Rattle.base.specs.Work.{zeros, after, work_bytes};
 ghost use Rattle.aes.specs.Calls.{in_room};
-ghost use Rattle.aes.specs.Cipher.{turned as turned_word, next_key, expanded, ciphered, aes};
+ghost use Rattle.aes.specs.Cipher.{turned as turned_word, next_key, expanded, one_round, last_round, ciphered, aes};
 ghost use Rattle.aes.specs.Field.{xtime as times_x};
-ghost use Rattle.aes.specs.Words.{word_bytes, bytes_of, round_column, last_column, round_columns, last_columns};
+ghost use Rattle.aes.specs.Words.{word_bytes, round_column, last_column};
 
 use super::block::{BLOCK_BYTES, Block};
 use super::tables::{first, fourth, second, sub, third};
 use base::{Case, Fault, Layer, Scratch, WORK_BYTES};
 
-// The bytes of the eleven round keys.
-pub(super) const KEYS_BYTES: usize = 176;
-
-// Where the last round key stands.
-const LAST_KEY: usize = 160;
+// The round keys of a key: the first, nine for the rounds, and the last.
+pub(super) type RoundKeys = [[u8; BLOCK_BYTES]; 11];
 
 // Times x in the field.
 fn xtime(byte: u8) -> u8
@@ -37,7 +37,7 @@ fn turned(word: u32, constant: u8) -> u32
 
 // The round key after a round key.
 fn next_key(key: Block, constant: u8) -> Block
-    ensures { bytes_of result ≡ next_key constant (bytes_of key) }
+    ensures { result ≡ next_key constant key }
 {
     let a = key.a ^ turned(key.d, constant);
     let b = key.b ^ a;
@@ -47,18 +47,16 @@ fn next_key(key: Block, constant: u8) -> Block
 }
 
 // Fills an area with the eleven round keys.
-pub(super) fn expand(key: &[u8; BLOCK_BYTES], keys: &mut [u8])
-    requires { length keys.old ≡ 176 }
+pub(super) fn expand(key: &[u8; BLOCK_BYTES], keys: &mut RoundKeys)
     ensures { keys.new ≡ expanded key.now }
 {
-    let mut round_key = Block::new(key);
+    let mut round_key = Block::from(*key);
     let mut constant = 1;
-    for i in 0..10usize {
-        keys[BLOCK_BYTES * i..BLOCK_BYTES * i + BLOCK_BYTES].copy_from_slice(&round_key.bytes());
+    for slot in keys.iter_mut() {
+        *slot = round_key.into();
         round_key = next_key(round_key, constant);
         constant = xtime(constant);
     }
-    keys[LAST_KEY..KEYS_BYTES].copy_from_slice(&round_key.bytes());
 }
 
 // A column of the next state, from one byte of each of four columns and a word of the round key.
@@ -82,7 +80,7 @@ fn unmixed(a: u32, b: u32, c: u32, d: u32, key: u32) -> u32
 
 // A round: the rows are shifted by the choice of the columns.
 fn one_round(s: Block, key: Block) -> Block
-    ensures { bytes_of result ≡ round_columns s key }
+    ensures { result ≡ one_round s key }
 {
     Block {
         a: mixed(s.a, s.b, s.c, s.d, key.a),
@@ -94,7 +92,7 @@ fn one_round(s: Block, key: Block) -> Block
 
 // The last round, which mixes no columns.
 fn last_round(s: Block, key: Block) -> Block
-    ensures { bytes_of result ≡ last_columns s key }
+    ensures { result ≡ last_round s key }
 {
     Block {
         a: unmixed(s.a, s.b, s.c, s.d, key.a),
@@ -104,37 +102,33 @@ fn last_round(s: Block, key: Block) -> Block
     }
 }
 
+// Rounds under some round keys.
+fn rounds(state: Block, keys: &[[u8; BLOCK_BYTES]]) -> Block
+    ensures { result ≡ fold one_round state keys.now }
+{
+    keys.iter()
+        .fold(state, |s, key| one_round(s, Block::from(*key)))
+}
+
 // A block under the round keys.
-pub(super) fn encrypt(keys: &[u8], block: Block) -> Block
-    requires { length keys.now ≡ 176 }
-    ensures { bytes_of result ≡ ciphered keys.now (bytes_of block) }
+pub(super) fn encrypt(keys: &RoundKeys, block: Block) -> Block
+    ensures { result ≡ ciphered keys.now block }
 {
-    let mut state = block.xor(Block::at(keys, 0));
-    for i in 1..10usize {
-        state = one_round(state, Block::at(keys, BLOCK_BYTES * i));
-    }
-    last_round(state, Block::at(keys, LAST_KEY))
+    let state = rounds(block ^ Block::from(keys[0]), &keys[1..10]);
+    last_round(state, Block::from(keys[10]))
 }
 
-// Encrypts a block in its place, with the round keys in the working area.
-fn encrypt_within(key: &[u8; BLOCK_BYTES], block: &mut [u8; BLOCK_BYTES], work: &mut [u8])
-    requires { work_bytes ≤ length work.old }
-    ensures { block.new ≡ aes key.now block.old }
+// The parts of a lent working area: the round keys, and a block to spare.
+pub(super) fn parts(work: &mut [u8]) -> Result<(&mut RoundKeys, &mut [u8; BLOCK_BYTES]), Fault>
+    ensures enough { IfOk result (λ _. work_bytes ≤ length work.old) }
+    ensures short { IfErr result (λ f. (f ≡ fault ShortArea Common) × (length work.old < work_bytes)) }
 {
-    let (keys, _) = work.split_at_mut(KEYS_BYTES);
-    expand(key, keys);
-    *block = encrypt(keys, Block::new(block)).bytes();
-}
-
-// Whether a working area has enough bytes.
-pub(super) fn room(work: usize) -> Result<(), Fault>
-    ensures answer { result ≡ in_room work tt }
-    ensures enough { OnOk result (work_bytes ≤ work) }
-{
-    if work < WORK_BYTES {
+    if work.len() < WORK_BYTES {
         return Err(Fault::new(Case::ShortArea, Layer::Common));
     }
-    Ok(())
+    let (blocks, _) = work.as_chunks_mut();
+    let (keys, rest) = blocks.split_first_chunk_mut().unwrap();
+    Ok((keys, &mut rest[0]))
 }
 
 /// Encrypts a block in its place.
@@ -148,7 +142,8 @@ pub fn encrypt_block(
     ensures clean { work.new ≡ zeros (length work.old) }
 {
     let guard = Scratch(work);
-    room(guard.0.len())?;
-    encrypt_within(key, block, guard.0);
+    let (keys, _) = parts(guard.0)?;
+    expand(key, keys);
+    *block = encrypt(keys, Block::from(*block)).into();
     Ok(())
 }

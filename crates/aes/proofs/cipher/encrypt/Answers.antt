@@ -1,17 +1,13 @@
-use Rattle.std.proofs.Common.{ℕ, List, drop, ap, ◌∙◌, arith}
-use Rattle.aes.specs.Cipher.{ciphered, rounds, xored}
-use Rattle.aes.specs.Words.{bytes_of}
-use Rattle.aes.proofs.Rounds.{rounds-more, rounds_end}
+use Rattle.std.proofs.Common.{[], take, drop, get_or, ap, ◌∙◌}
+use Rattle.std.specs.Prelude.{fold}
+use Rattle.aes.specs.Cipher.{one_round, last_round, xored}
+use Rattle.aes.proofs.Rounds.{ciphered_is}
 use Rattle.aes.proofs.cipher.encrypt.Goals as goal
 
-pub loop-i-preserved : goal.loop-i-preserved
-loop-i-preserved c =
-    rounds-more c.loop-i.i c.loop-i.state c.one_round-state.result c.at-in-loop-i.result c.args.keys.now (omega arith) c.at-in-loop-i.ensures c.one_round-state.ensures
-    ∙ c.loop-i.invariant
-
 pub returns : goal.returns
-unfolding ciphered
 returns c =
-    rounds_end c.loop-i.i c.loop-i.state c.last_round.result c.at-2.result c.args.keys.now (omega arith) c.at-2.ensures c.last_round.ensures
-    ∙ c.loop-i.invariant
-    ∙ ap (λ (z : List ℕ). rounds 9 z (drop 16 c.args.keys.now)) (c.xor-state.ensures ∙ ap (xored (bytes_of c.args.block)) c.at.ensures)
+    let keys = c.args.keys.now in
+    let state = c.rounds-state.ensures ∙ ap (λ s. fold one_round s (take 9 (drop 1 keys))) (c.bitxor.ensures ∙ ap (xored c.args.block) c.from.ensures) in
+    c.last_round.ensures ∙ ap (λ s. last_round s c.from-2.result) state
+    ∙ ap (last_round (fold one_round (xored c.args.block (get_or keys 0 [])) (take 9 (drop 1 keys)))) c.from-2.ensures
+    ∙ ciphered_is keys c.args.block c.told-keys

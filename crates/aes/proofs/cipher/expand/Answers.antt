@@ -1,17 +1,21 @@
-use Rattle.std.proofs.Common.{ap, ◌∙◌, arith}
+use Rattle.std.proofs.Common.{ap, ◌∙◌, length-set, arith}
 use Rattle.aes.specs.Cipher.{expanded, keys_from}
-use Rattle.aes.proofs.Rounds.{keys_more, keys_end, length-bytes}
+use Rattle.aes.proofs.Rounds.{keys_step, keys_all, key_list-from}
 use Rattle.aes.proofs.cipher.expand.Goals as goal
 
-pub loop-i-preserved : goal.loop-i-preserved
-loop-i-preserved c =
-    keys_more c.loop-i.i _ c.loop-i.constant c.xtime-constant.result _ _ c.loop-i.keys c.copy_from_slice.new.self (omega arith) (omega arith)
-    (c.copy_from_slice.ensures.after ∙ c.bytes.ensures) (length-bytes c.loop-i.round_key) c.xtime-constant.ensures c.next_key-round_key.ensures
-    ∙ c.loop-i.invariant
+pub loop-slot-preserved : goal.loop-slot-preserved
+loop-slot-preserved c = record {
+  eleven = length-set c.loop-slot.keys c.loop-slot.slot-index c.into.result ∙ c.loop-slot.invariant.eleven;
+  written =
+      keys_step c.loop-slot.slot-index c.loop-slot.constant c.xtime-constant.result c.loop-slot.round_key c.into.result c.next_key-round_key.result c.loop-slot.keys
+      (omega arith) c.loop-slot.invariant.eleven c.into.ensures c.xtime-constant.ensures c.next_key-round_key.ensures
+      ∙ c.loop-slot.invariant.written;
+}
 
 pub returns : goal.returns
 unfolding expanded
 returns c =
-    keys_end c.loop-i.i c.loop-i.constant _ c.loop-i.keys c.copy_from_slice-2.new.self (omega arith) (omega arith) (c.copy_from_slice-2.ensures.after ∙ c.bytes-2.ensures)
-    ∙ c.loop-i.invariant
-    ∙ ap (keys_from 10 1) c.new-round_key.ensures
+    keys_all c.loop-slot.slot-index c.loop-slot.constant c.loop-slot.round_key c.loop-slot.keys (omega arith) c.loop-slot.invariant.eleven
+    ∙ c.loop-slot.invariant.written
+    ∙ key_list-from 10 1 c.from-round_key.result
+    ∙ ap (keys_from 10 1) c.from-round_key.ensures

@@ -1,7 +1,9 @@
-use Rattle.std.proofs.Common.{◌≡◌, ◌-◌, ◌*◌, ◌++◌, take}
-use Rattle.aes.specs.Cipher.{keys_from}
-use Rattle.aes.specs.Words.{bytes_of}
+use Rattle.std.proofs.Common.{◌≡◌, ◌-◌, ◌++◌, length, take}
+use Rattle.aes.proofs.Rounds.{key_list}
 use Rattle.aes.proofs.cipher.expand.Given as goal
 
-abbrev pub invariant-loop-i : goal.invariant-loop-i
-invariant-loop-i l = take (16 * l.i) l.keys ++ keys_from (10 - l.i) l.constant (bytes_of l.round_key) ≡ keys_from 10 1 (bytes_of l.initial.round_key)
+abbrev pub invariant-loop-slot : goal.invariant-loop-slot
+invariant-loop-slot l = record {
+  eleven : length l.keys ≡ 11;
+  written : take l.slot-index l.keys ++ key_list (11 - l.slot-index) l.constant l.round_key ≡ key_list 11 1 l.initial.round_key;
+}

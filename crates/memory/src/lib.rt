@@ -23,6 +23,7 @@ pub trait Rows {
     ghost held: { Self → Held };
 
     /// Fills the area with what the row reads as, and answers the row's kind.
+    // The kind comes beside a lent area and not with bytes in it: 64 bytes are not copied for it, and a refusal leaves them.
     fn read(&self, row: u16, area: &mut [u8; ROW_BYTES]) -> Result<RowKind, Fault>
         ensures answer { result ≡ (reading (held self.now) row area.old).0 }
         ensures area { area.new ≡ (reading (held self.now) row area.old).1 };
@@ -60,6 +61,7 @@ pub trait Memory: Rows {
         ensures after { meaning self.new ≡ (raising (meaning self.old)).1 };
 
     /// Turns the memory on: the supply fails in the change after `charge` more, and leaves what `tear` says.
+    // The tear is a number and no enum, since a number that is none is asked for too, and refused.
     fn power_up(&mut self, charge: u32, tear: u8) -> Result<(), Fault>
         ensures answer { result ≡ (powering_up (meaning self.old) charge tear).0 }
         ensures after { meaning self.new ≡ (powering_up (meaning self.old) charge tear).1 };

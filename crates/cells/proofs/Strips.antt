@@ -22,7 +22,7 @@ byte-zeros (suc (suc (suc (suc (suc (suc (suc zero))))))) h = refl
 byte-zeros (suc (suc (suc (suc (suc (suc (suc (suc zero)))))))) h = refl
 byte-zeros (suc (suc (suc (suc (suc (suc (suc (suc (suc k))))))))) h = absurd (omega arith)
 
-pub mask_byte : (k : ℕ) → k < 8 → bit_and (byte_of k) (127 / 2 ^ k) ≡ byte_of (k + 1)
+mask_byte : (k : ℕ) → k < 8 → bit_and (byte_of k) (127 / 2 ^ k) ≡ byte_of (k + 1)
 mask_byte zero h = refl
 mask_byte (suc zero) h = refl
 mask_byte (suc (suc zero)) h = refl
@@ -33,7 +33,7 @@ mask_byte (suc (suc (suc (suc (suc (suc zero)))))) h = refl
 mask_byte (suc (suc (suc (suc (suc (suc (suc zero))))))) h = refl
 mask_byte (suc (suc (suc (suc (suc (suc (suc (suc k)))))))) h = absurd (omega arith)
 
-pub zeros-cleared : (l n : ℕ) → zeros (cleared l n) ≡ min n (8 * l)
+zeros-cleared : (l n : ℕ) → zeros (cleared l n) ≡ min n (8 * l)
 unfolding cleared
 zeros-cleared zero n = omega arith
 zeros-cleared (suc l) n =
@@ -41,7 +41,7 @@ zeros-cleared (suc l) n =
     let rest : zeros (cleared l (n - 8)) ≡ min (n - 8) (8 * l) = zeros-cleared l (n - 8) in
     omega arith
 
-pub cleared_at : (l n : ℕ) → n < 8 * l → get_or (cleared l n) (n / 8) 0 ≡ byte_of (n % 8)
+cleared_at : (l n : ℕ) → n < 8 * l → get_or (cleared l n) (n / 8) 0 ≡ byte_of (n % 8)
 unfolding cleared
 cleared_at zero n h = absurd (omega arith)
 cleared_at (suc l) n h =
@@ -50,7 +50,7 @@ cleared_at (suc l) n h =
       | inr high ↦ (let q : n / 8 ≡ suc ((n - 8) / 8) = omega arith in let r : n % 8 ≡ (n - 8) % 8 = omega arith in rw (q, r) (cleared_at l (n - 8) (omega arith)))
     ]
 
-pub cleared_more : (l n : ℕ) → n < 8 * l → set (cleared l n) (n / 8) (byte_of (n % 8 + 1)) ≡ cleared l (n + 1)
+cleared_more : (l n : ℕ) → n < 8 * l → set (cleared l n) (n / 8) (byte_of (n % 8 + 1)) ≡ cleared l (n + 1)
 unfolding cleared
 cleared_more zero n h = absurd (omega arith)
 cleared_more (suc l) n h =
@@ -64,7 +64,7 @@ cleared_more (suc l) n h =
     ]
 
 -- A strip of 512 bytes with n bits cleared counts n.
-pub counted : (s : List ℕ) (n : ℕ) → n ≤ strip_bits → s ≡ cleared strip_bytes n → Legal s × (zeros s ≡ n)
+counted : (s : List ℕ) (n : ℕ) → n ≤ strip_bits → s ≡ cleared strip_bytes n → Legal s × (zeros s ≡ n)
 counted s n h e =
     let z : zeros (cleared strip_bytes n) ≡ n = zeros-cleared strip_bytes n ∙ omega arith in
     let k : zeros s ≡ n = ap zeros e ∙ z in
@@ -92,7 +92,7 @@ length-cleared zero n = refl
 length-cleared (suc l) n = ap suc (length-cleared l (n - 8))
 
 -- No byte has more than eight zero bits.
-pub zeros_le : (s : List ℕ) → zeros s ≤ 8 * length s
+zeros_le : (s : List ℕ) → zeros s ≤ 8 * length s
 zeros_le [] = omega arith
 zeros_le (b ∷ bs) =
     let here : zero_bits b ≤ 8 = ones-le 8 (2 ^ 8 - 1 - b) (omega arith) in
@@ -100,12 +100,12 @@ zeros_le (b ∷ bs) =
     omega arith
 
 -- The count is the sum of what the bytes count.
-pub sum-zeros : (s : List ℕ) → sum_by zero_bits s ≡ zeros s
-sum-zeros [] = refl
-sum-zeros (b ∷ bs) = sum_by-cons zero_bits b bs ∙ ap (λ n. zero_bits b + n) (sum-zeros bs)
+pub sum_zeros : (s : List ℕ) → sum_by zero_bits s ≡ zeros s
+sum_zeros [] = refl
+sum_zeros (b ∷ bs) = sum_by-cons zero_bits b bs ∙ ap (λ n. zero_bits b + n) (sum_zeros bs)
 
-pub sum-zeros-le : (s : List ℕ) → sum_by zero_bits s ≤ 8 * length s
-sum-zeros-le s = rw (sum-zeros s) (zeros_le s)
+pub sum_zeros_le : (s : List ℕ) → sum_by zero_bits s ≤ 8 * length s
+sum_zeros_le s = rw (sum_zeros s) (zeros_le s)
 
 -- The prefix never passes the strip.
 legal_le : (s : List ℕ) → Legal s → zeros s ≤ strip_bits
@@ -115,13 +115,13 @@ stepped_le : (n : ℕ) → n ≤ strip_bits → stepped strip_bits n ≤ strip_b
 stepped_le n h = cond_both (ltb n strip_bits) (n + 1) n (λ x. x ≤ strip_bits) (λ e. omega (arith, ltb-true n strip_bits e)) (λ e. h)
 
 -- A step gives a legal strip with the count stepped.
-pub after-step : (s r : List ℕ) → Legal s → r ≡ stepped_strip s → Legal r × (zeros r ≡ stepped strip_bits (zeros s))
-after-step s r e made = counted r (stepped strip_bits (zeros s)) (stepped_le (zeros s) (legal_le s e)) made
+pub after_step : (s r : List ℕ) → Legal s → r ≡ stepped_strip s → Legal r × (zeros r ≡ stepped strip_bits (zeros s))
+after_step s r e made = counted r (stepped strip_bits (zeros s)) (stepped_le (zeros s) (legal_le s e)) made
 
-pub stepped-below : (n : ℕ) → n < strip_bits → stepped strip_bits n ≡ n + 1
+stepped-below : (n : ℕ) → n < strip_bits → stepped strip_bits n ≡ n + 1
 stepped-below n h = cond-true (ltb n strip_bits) (n + 1) n (lt-ltb n strip_bits h)
 
-pub stepped-full : (n : ℕ) → strip_bits ≤ n → stepped strip_bits n ≡ n
+stepped-full : (n : ℕ) → strip_bits ≤ n → stepped strip_bits n ≡ n
 stepped-full n h = cond-false (ltb n strip_bits) (n + 1) n (le-ltb n strip_bits h)
 
 -- Clearing the next bit of a byte is the step.
@@ -171,7 +171,7 @@ same_test a b c d f g =
     ]
 
 -- The bits of a prefix strip: the first n are cleared, and the others are not.
-pub bit_cleared : (l n k : ℕ) → k < 8 * l → bit_at (cleared l n) k ≡ cond (ltb k n) 0 1
+bit_cleared : (l n k : ℕ) → k < 8 * l → bit_at (cleared l n) k ≡ cond (ltb k n) 0 1
 unfolding cleared
 bit_cleared zero n k h = absurd (omega arith)
 bit_cleared (suc l) n k h =
@@ -186,16 +186,16 @@ bit_cleared (suc l) n k h =
           rw (q, r, ← t) (bit_cleared l (n - 8) (k - 8) (omega arith)))
     ]
 
-pub prefix : (s : List ℕ) → Legal s → (k : ℕ) → k < strip_bits → bit_at s k ≡ cond (ltb k (zeros s)) 0 1
+prefix : (s : List ℕ) → Legal s → (k : ℕ) → k < strip_bits → bit_at s k ≡ cond (ltb k (zeros s)) 0 1
 prefix s e k h = ap (λ t. bit_at t k) e ∙ bit_cleared strip_bytes (zeros s) k (omega arith)
 
 -- One more in the prefix is one bit more.
 one_bit : (n k : ℕ) → ◌≡◌ {A = ℕ} (cond (ltb k (n + 1)) 0 1) (cond (eqb k n) 0 (cond (ltb k n) 0 1))
 one_bit n k = grind (arith, nat_tests)
 
-pub step-laws : (s : List ℕ) → Legal s → zeros s < strip_bits → Stepped s
+step-laws : (s : List ℕ) → Legal s → zeros s < strip_bits → Stepped s
 step-laws s e h =
-    let after = after-step s (stepped_strip s) e refl in
+    let after = after_step s (stepped_strip s) e refl in
     let count : zeros (stepped_strip s) ≡ zeros s + 1 = after.1 ∙ stepped-below (zeros s) h in
     record {
       legal = after.0;
@@ -207,8 +207,8 @@ step-laws s e h =
           ∙ ap (λ b. cond (eqb k (zeros s)) 0 b) (sym (prefix s e k below-k));
     }
 
-pub strip-laws : StripLaws
-strip-laws =
+pub strip_laws : StripLaws
+strip_laws =
     record {
       new = fresh;
       bound = λ s e. let le : zeros s ≤ 8 * length s = zeros_le s in omega arith;

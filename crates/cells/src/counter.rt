@@ -38,7 +38,7 @@ pub struct Register {
 pub const STRIP_BYTES: usize = 512;
 
 /// The count of a flash part, in cleared bits: those cleared are always the first ones.
-#[derive(Clone, Copy)]
+#[derive(Clone, Copy, Debug, PartialEq, Eq)]
 pub struct Strip {
     bytes: [u8; STRIP_BYTES],
     ghost prefix: { Legal bytes },
@@ -77,22 +77,6 @@ impl Counter for Register {
     }
 }
 
-// How many bits are cleared.
-fn zero_bits(strip: &[u8; STRIP_BYTES]) -> u32
-    ensures { result ≡ zeros strip.now }
-{
-    strip.iter().map(|byte| byte.count_zeros()).sum()
-}
-
-// A strip of which no bit is cleared.
-fn fresh_strip() -> [u8; STRIP_BYTES]
-    ensures strip { result ≡ new_strip }
-    ensures legal { Legal result }
-    ensures count { zeros result ≡ 0 }
-{
-    [UNCLEARED; STRIP_BYTES]
-}
-
 // A byte with one more bit cleared: bit 0 is the highest.
 fn clear_bit(byte: u8, bit: u32) -> u8
     requires { bit < 8 }
@@ -101,21 +85,18 @@ fn clear_bit(byte: u8, bit: u32) -> u8
     byte & (WITHOUT_HIGHEST >> bit)
 }
 
-// A copy of the strip with one more bit cleared, the highest of byte 0 first. A full strip stays.
-fn stepped_copy(strip: &[u8; STRIP_BYTES]) -> [u8; STRIP_BYTES]
-    requires { Legal strip.now }
-    ensures strip { result ≡ stepped_strip strip.now }
-    ensures legal { Legal result }
-    ensures count { zeros result ≡ stepped strip_bits (zeros strip.now) }
-    ensures laws { StripLaws }
+// A strip of so many cleared bits with the next one cleared, the highest of byte 0 first. A full strip stays.
+fn next_cleared(strip: &[u8; STRIP_BYTES], count: u32) -> [u8; STRIP_BYTES]
+    requires legal { Legal strip.now }
+    requires counted { count ≡ zeros strip.now }
+    ensures { result ≡ stepped_strip strip.now }
 {
-    let mut copy = *strip;
-    let count = zero_bits(strip);
+    let mut bytes = *strip;
     let place = (count / u8::BITS) as usize;
     if place < STRIP_BYTES {
-        copy[place] = clear_bit(copy[place], count % u8::BITS);
+        bytes[place] = clear_bit(bytes[place], count % u8::BITS);
     }
-    copy
+    bytes
 }
 
 impl Counter for Strip {
@@ -125,17 +106,18 @@ impl Counter for Strip {
 
     ghost limit = { strip_bits };
 
+    #[tactic(auto, using(crate::proofs::Strips::fresh))]
     fn new() -> Strip
         ensures count { strip_count result ≡ 0 }
         ensures strip { result.bytes ≡ new_strip }
     {
         Strip {
-            bytes: fresh_strip(),
+            bytes: [UNCLEARED; STRIP_BYTES],
         }
     }
 
     fn count(&self) -> u32 {
-        zero_bits(&self.bytes)
+        self.bytes.iter().map(|byte| byte.count_zeros()).sum()
     }
 
     fn ceiling(&self) -> u32 {
@@ -143,11 +125,13 @@ impl Counter for Strip {
     }
 
     // The laws say what a step does to the bits: it clears the next one and no other.
+    #[tactic(auto, using(crate::proofs::Strips::after_step, crate::proofs::Strips::strip_laws))]
     fn step(&mut self)
         ensures count { strip_count self.new ≡ stepped strip_bits (strip_count self.old) }
         ensures strip { self.new.bytes ≡ stepped_strip self.old.bytes }
         ensures laws { StripLaws }
     {
-        self.bytes = stepped_copy(&self.bytes);
+        let count = self.count();
+        self.bytes = next_cleared(&self.bytes, count);
     }
 }

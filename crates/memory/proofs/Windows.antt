@@ -30,9 +30,6 @@ module _ (f n : ℕ) (h : Held) (i : ℕ) (within : i < length (shown_held f n h
   shown-set : (x : Row) → take n (drop f (set h.rows (f + i) x)) ≡ set (take n (drop f h.rows)) i x
   shown-set x = let b = in_window in rw (drop-set-add, take-set-lt)
 
-  shown_probe : probing h (f + i) ≡ probing (shown_held f n h) i
-  shown_probe = let k = in_memory in let a = shown-at in grind (arith, nat_tests)
-
   module _ (area : List ℕ) where
     shown-answer : renumber i (reading h (f + i) area).0 ≡ (reading (shown_held f n h) i area).0
     unfolding reading
@@ -103,9 +100,6 @@ module _ (f n : ℕ) (h : Held) (i : ℕ) where
   unfolding reading
   read_beyond-area area beyond = grind (arith, nat_tests)
 
-pub probe-shown : (f n : ℕ) (h : Held) (i k : ℕ) → Placed f n h i (Ok k) → probing h k ≡ probing (shown_held f n h) i
-probe-shown f n h i k placed = ap (probing h) placed.0 ∙ shown_probe f n h i placed.1
-
 -- A call through a window: r is the answer and the window shows the memory of the outcome o, only its own rows
 -- changed, and the laws L of such a call hold.
 pub record Did {M : Type 0} (meaning : M → Mem) (before after : Window M) (r : Result (Unit {0}) Fault) (o : Outcome) (L : Outcome → Type 0) : Type 0 where
@@ -132,85 +126,86 @@ module _ {M : Type 0} (meaning : M → Mem) (w : Window M) where
 
   module _ (n : M) (r : Result (Unit {0}) Fault) where
     -- A row that the window shows.
-    put_shown : (h : Held) (i k : ℕ) (x : Row) (s : Result (Unit {0}) Fault) → h ≡ (meaning w.inner).held → k ≡ w.first + i → i < length (shown_held w.first w.count h).rows → s ≡ (putting (meaning w.inner) k x).0 → r ≡ renumber i s → meaning n ≡ (putting (meaning w.inner) k x).1 → Did meaning w (moved n) r (putting view i x) (PutLaws view i x)
-    put_shown h i k x s agrees placed shows answered same after =
-        let m = meaning w.inner in
-        let f = w.first in
-        let within : i < length view.held.rows = rw agrees at shows in
-        let after' : meaning n ≡ (putting m (f + i) x).1 = after ∙ ap (λ j. (putting m j x).1) placed in
-        did n r (putting view i x) (PutLaws view i x)
-        (same ∙ ap (renumber i) (answered ∙ ap (λ j. (putting m j x).0) placed) ∙ put_answer f w.count m i within x)
-        (ap (shown_mem f w.count) after' ∙ put_after f w.count m i within x)
-        (subst (λ (q : Mem). Untouched f w.count m.held q.held) (sym after') (put_untouched f w.count m i within x))
-        (put_laws view i x)
+    module _ (h : Held) (i k : ℕ) (x : Row) (s : Result (Unit {0}) Fault) (agrees : h ≡ (meaning w.inner).held) (placed : k ≡ w.first + i) (shows : i < length (shown_held w.first w.count h).rows) (answered : s ≡ (putting (meaning w.inner) k x).0) (same : r ≡ renumber i s) (after : meaning n ≡ (putting (meaning w.inner) k x).1) where
+      put_shown : Did meaning w (moved n) r (putting view i x) (PutLaws view i x)
+      put_shown =
+          let m = meaning w.inner in
+          let f = w.first in
+          let within : i < length view.held.rows = rw agrees at shows in
+          let after' : meaning n ≡ (putting m (f + i) x).1 = after ∙ ap (λ j. (putting m j x).1) placed in
+          did n r (putting view i x) (PutLaws view i x)
+          (same ∙ ap (renumber i) (answered ∙ ap (λ j. (putting m j x).0) placed) ∙ put_answer f w.count m i within x)
+          (ap (shown_mem f w.count) after' ∙ put_after f w.count m i within x)
+          (subst (λ (q : Mem). Untouched f w.count m.held q.held) (sym after') (put_untouched f w.count m i within x))
+          (put_laws view i x)
 
-    pub put_shown-answer : (h : Held) (i k : ℕ) (x : Row) (s : Result (Unit {0}) Fault) → h ≡ (meaning w.inner).held → k ≡ w.first + i → i < length (shown_held w.first w.count h).rows → s ≡ (putting (meaning w.inner) k x).0 → r ≡ renumber i s → meaning n ≡ (putting (meaning w.inner) k x).1 → r ≡ (putting view i x).0
-    put_shown-answer h i k x s agrees placed shows answered same after = (put_shown h i k x s agrees placed shows answered same after).answer
+      pub put_shown-answer : r ≡ (putting view i x).0
+      put_shown-answer = put_shown.answer
 
-    pub put_shown-after : (h : Held) (i k : ℕ) (x : Row) (s : Result (Unit {0}) Fault) → h ≡ (meaning w.inner).held → k ≡ w.first + i → i < length (shown_held w.first w.count h).rows → s ≡ (putting (meaning w.inner) k x).0 → r ≡ renumber i s → meaning n ≡ (putting (meaning w.inner) k x).1 → view_of meaning (moved n) ≡ (putting view i x).1
-    put_shown-after h i k x s agrees placed shows answered same after = (put_shown h i k x s agrees placed shows answered same after).shown
+      pub put_shown-after : view_of meaning (moved n) ≡ (putting view i x).1
+      put_shown-after = put_shown.shown
 
-    pub put_shown-bounded : (h : Held) (i k : ℕ) (x : Row) (s : Result (Unit {0}) Fault) → h ≡ (meaning w.inner).held → k ≡ w.first + i → i < length (shown_held w.first w.count h).rows → s ≡ (putting (meaning w.inner) k x).0 → r ≡ renumber i s → meaning n ≡ (putting (meaning w.inner) k x).1 → Bounded meaning w (moved n)
-    put_shown-bounded h i k x s agrees placed shows answered same after = (put_shown h i k x s agrees placed shows answered same after).bounded
+      pub put_shown-bounded : Bounded meaning w (moved n)
+      put_shown-bounded = put_shown.bounded
 
-    pub put_shown-laws : (h : Held) (i k : ℕ) (x : Row) (s : Result (Unit {0}) Fault) → h ≡ (meaning w.inner).held → k ≡ w.first + i → i < length (shown_held w.first w.count h).rows → s ≡ (putting (meaning w.inner) k x).0 → r ≡ renumber i s → meaning n ≡ (putting (meaning w.inner) k x).1 → PutLaws view i x (r, view_of meaning (moved n))
-    put_shown-laws h i k x s agrees placed shows answered same after = (put_shown h i k x s agrees placed shows answered same after).laws
+      pub put_shown-laws : PutLaws view i x (r, view_of meaning (moved n))
+      put_shown-laws = put_shown.laws
 
-    raise_shown : r ≡ (raising (meaning w.inner)).0 → meaning n ≡ (raising (meaning w.inner)).1 → Did meaning w (moved n) r (raising view) (RaiseLaws view)
-    raise_shown answer after =
-        let m = meaning w.inner in
-        did n r (raising view) (RaiseLaws view)
-        (answer ∙ raise-answer w.first w.count m)
-        (ap (shown_mem w.first w.count) after ∙ raise-after w.first w.count m)
-        (same-untouched w.first w.count m.held (meaning n).held (ap (λ (q : Mem). q.held.rows) after ∙ (raise-laws m).rows))
-        (raise-laws view)
+    module _ (answer : r ≡ (raising (meaning w.inner)).0) (after : meaning n ≡ (raising (meaning w.inner)).1) where
+      raise_shown : Did meaning w (moved n) r (raising view) (RaiseLaws view)
+      raise_shown =
+          let m = meaning w.inner in
+          did n r (raising view) (RaiseLaws view)
+          (answer ∙ raise-answer w.first w.count m)
+          (ap (shown_mem w.first w.count) after ∙ raise-after w.first w.count m)
+          (same-untouched w.first w.count m.held (meaning n).held (ap (λ (q : Mem). q.held.rows) after ∙ (raise-laws m).rows))
+          (raise-laws view)
 
-    pub raise_shown-answer : r ≡ (raising (meaning w.inner)).0 → meaning n ≡ (raising (meaning w.inner)).1 → r ≡ (raising view).0
-    raise_shown-answer answer after = (raise_shown answer after).answer
+      pub raise_shown-answer : r ≡ (raising view).0
+      raise_shown-answer = raise_shown.answer
 
-    pub raise_shown-after : r ≡ (raising (meaning w.inner)).0 → meaning n ≡ (raising (meaning w.inner)).1 → view_of meaning (moved n) ≡ (raising view).1
-    raise_shown-after answer after = (raise_shown answer after).shown
+      pub raise_shown-after : view_of meaning (moved n) ≡ (raising view).1
+      raise_shown-after = raise_shown.shown
 
-    pub raise_shown-bounded : r ≡ (raising (meaning w.inner)).0 → meaning n ≡ (raising (meaning w.inner)).1 → Bounded meaning w (moved n)
-    raise_shown-bounded answer after = (raise_shown answer after).bounded
+      pub raise_shown-bounded : Bounded meaning w (moved n)
+      raise_shown-bounded = raise_shown.bounded
 
-    pub raise_shown-laws : r ≡ (raising (meaning w.inner)).0 → meaning n ≡ (raising (meaning w.inner)).1 → RaiseLaws view (r, view_of meaning (moved n))
-    raise_shown-laws answer after = (raise_shown answer after).laws
+      pub raise_shown-laws : RaiseLaws view (r, view_of meaning (moved n))
+      raise_shown-laws = raise_shown.laws
 
-    up_shown : (charge tear : ℕ) → r ≡ (powering_up (meaning w.inner) charge tear).0 → meaning n ≡ (powering_up (meaning w.inner) charge tear).1 → Did meaning w (moved n) r (powering_up view charge tear) (SupplyLaws view)
-    up_shown charge tear answer after =
-        let m = meaning w.inner in
-        did n r (powering_up view charge tear) (SupplyLaws view)
-        (answer ∙ up_answer w.first w.count m charge tear)
-        (ap (shown_mem w.first w.count) after ∙ up_after w.first w.count m charge tear)
-        (same-untouched w.first w.count m.held (meaning n).held (ap (λ (q : Mem). q.held.rows) after ∙ (up_laws m charge tear).rows))
-        (up_laws view charge tear)
+    module _ (charge tear : ℕ) (answer : r ≡ (powering_up (meaning w.inner) charge tear).0) (after : meaning n ≡ (powering_up (meaning w.inner) charge tear).1) where
+      up_shown : Did meaning w (moved n) r (powering_up view charge tear) (SupplyLaws view)
+      up_shown =
+          let m = meaning w.inner in
+          did n r (powering_up view charge tear) (SupplyLaws view)
+          (answer ∙ up_answer w.first w.count m charge tear)
+          (ap (shown_mem w.first w.count) after ∙ up_after w.first w.count m charge tear)
+          (same-untouched w.first w.count m.held (meaning n).held (ap (λ (q : Mem). q.held.rows) after ∙ (up_laws m charge tear).rows))
+          (up_laws view charge tear)
 
-    pub up_shown-answer : (charge tear : ℕ) → r ≡ (powering_up (meaning w.inner) charge tear).0 → meaning n ≡ (powering_up (meaning w.inner) charge tear).1 → r ≡ (powering_up view charge tear).0
-    up_shown-answer charge tear answer after = (up_shown charge tear answer after).answer
+      pub up_shown-answer : r ≡ (powering_up view charge tear).0
+      up_shown-answer = up_shown.answer
 
-    pub up_shown-after : (charge tear : ℕ) → r ≡ (powering_up (meaning w.inner) charge tear).0 → meaning n ≡ (powering_up (meaning w.inner) charge tear).1 → view_of meaning (moved n) ≡ (powering_up view charge tear).1
-    up_shown-after charge tear answer after = (up_shown charge tear answer after).shown
+      pub up_shown-after : view_of meaning (moved n) ≡ (powering_up view charge tear).1
+      up_shown-after = up_shown.shown
 
-    pub up_shown-bounded : (charge tear : ℕ) → r ≡ (powering_up (meaning w.inner) charge tear).0 → meaning n ≡ (powering_up (meaning w.inner) charge tear).1 → Bounded meaning w (moved n)
-    up_shown-bounded charge tear answer after = (up_shown charge tear answer after).bounded
+      pub up_shown-bounded : Bounded meaning w (moved n)
+      up_shown-bounded = up_shown.bounded
 
-    pub up_shown-laws : (charge tear : ℕ) → r ≡ (powering_up (meaning w.inner) charge tear).0 → meaning n ≡ (powering_up (meaning w.inner) charge tear).1 → SupplyLaws view (r, view_of meaning (moved n))
-    up_shown-laws charge tear answer after = (up_shown charge tear answer after).laws
+      pub up_shown-laws : SupplyLaws view (r, view_of meaning (moved n))
+      up_shown-laws = up_shown.laws
 
   -- A row that the window does not show.
-  put_beyond : (h : Held) (i : ℕ) (x : Row) (e : Fault) → h ≡ (meaning w.inner).held → e ≡ fault_at NoRow Memory i → length (shown_held w.first w.count h).rows ≤ i → Did meaning w w (Err e) (putting view i x) (PutLaws view i x)
-  put_beyond h i x e agrees is beyond =
-      let past : length view.held.rows ≤ i = rw agrees at beyond in
-      let step : ◌≡◌ {A = Result (Unit {0}) Fault} (Err e) (Err (fault_at NoRow Memory i)) = ap Err is in
-      did w.inner (Err e) (putting view i x) (PutLaws view i x)
-      (step ∙ (put_missing view i x past).0)
-      (put_missing view i x past).1
-      (same-untouched w.first w.count (meaning w.inner).held (meaning w.inner).held refl)
-      (put_laws view i x)
+  module _ (h : Held) (i : ℕ) (x : Row) (e : Fault) (agrees : h ≡ (meaning w.inner).held) (is : e ≡ fault_at NoRow Memory i) (beyond : length (shown_held w.first w.count h).rows ≤ i) where
+    missing : (Err e ≡ (putting view i x).0) × (view ≡ (putting view i x).1)
+    missing =
+        let past : length view.held.rows ≤ i = rw agrees at beyond in
+        let step : ◌≡◌ {A = Result (Unit {0}) Fault} (Err e) (Err (fault_at NoRow Memory i)) = ap Err is in
+        let none = put_missing view i x past in
+        (step ∙ none.0, none.1)
 
-  pub put_beyond-answer : (h : Held) (i : ℕ) (x : Row) (e : Fault) → h ≡ (meaning w.inner).held → e ≡ fault_at NoRow Memory i → length (shown_held w.first w.count h).rows ≤ i → Err e ≡ (putting view i x).0
-  put_beyond-answer h i x e agrees is beyond = (put_beyond h i x e agrees is beyond).answer
+    pub put_beyond-answer : Err e ≡ (putting view i x).0
+    put_beyond-answer = missing.0
 
-  pub put_beyond-after : (h : Held) (i : ℕ) (x : Row) (e : Fault) → h ≡ (meaning w.inner).held → e ≡ fault_at NoRow Memory i → length (shown_held w.first w.count h).rows ≤ i → view ≡ (putting view i x).1
-  put_beyond-after h i x e agrees is beyond = (put_beyond h i x e agrees is beyond).shown
+    pub put_beyond-after : view ≡ (putting view i x).1
+    put_beyond-after = missing.1

@@ -30,11 +30,12 @@ fn renumbered<T>(answer: Result<T, Fault>, row: u16) -> Result<T, Fault>
 
 impl<M: Rows> Window<M> {
     /// Opens a window, or hands the memory back where it does not have these rows or none are asked for.
+    // The rows are two numbers and no range of a type of its own: numbers that are no range are asked for too, and refused.
     pub fn new(inner: M, first: u16, count: u16) -> Result<Window<M>, (Fault, M)>
         ensures { Opened first count inner (M.Rows.held inner) result }
     {
         let size = inner.size();
-        if count == 0 || first > size || count > size - first {
+        if count == 0 || count > size.saturating_sub(first) {
             return Err((Fault::new(Case::BadShape, Layer::Memory), inner));
         }
         Ok(Window {
@@ -48,8 +49,7 @@ impl<M: Rows> Window<M> {
     fn place(&self, row: u16) -> Result<u16, Fault>
         ensures { Placed self.now.first self.now.count (M.Rows.held self.now.inner) row result }
     {
-        let size = self.inner.size();
-        if row < self.count && row < size.saturating_sub(self.first) {
+        if row < self.size() {
             Ok(self.first + row)
         } else {
             Err(Fault::at(Case::NoRow, Layer::Memory, row))
@@ -65,7 +65,10 @@ impl<M: Rows> Rows for Window<M> {
         renumbered(self.inner.read(place, area), row)
     }
 
-    fn size(&self) -> u16 {
+    fn size(&self) -> u16
+        ensures size { result ≡ length (rows_of M.Rows.held self.now).rows }
+        ensures fits { self.now.first + result < 65536 }
+    {
         self.count.min(self.inner.size().saturating_sub(self.first))
     }
 }

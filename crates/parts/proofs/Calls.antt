@@ -13,8 +13,13 @@ use Rattle.parts.specs.declared.supply.Supply.{Supply}
 use Rattle.parts.specs.declared.supply.Tear.{Tear}
 use Rattle.parts.specs.declared.supply.Tear.TheVariants.{Old, New, Spoilt}
 use Rattle.cells.specs.Strip.{stepped}
-use Rattle.parts.specs.Supply.{supply, tear_number, drawing, drawn, admitting_raise, cut_told, left_row, left_count}
+use Rattle.parts.specs.Supply.{supply, tear_number, drawing, drawn, admitting_raise, left_row, left_count}
 use Rattle.parts.specs.Part.{held_of, meaning_of, admitting}
+
+-- What the caller is told of a change, where f is the fault of a cut.
+abbrev cut_told : Result (Unit {0}) Tear → Fault → Result (Unit {0}) Fault
+cut_told (Ok _) f = Ok tt
+cut_told (Err _) f = Err f
 
 -- Whether a change is admitted, by two tests, and what is done then or else.
 abbrev gate : Bool → Bool → Fault → Fault → Result (Unit {0}) Fault

@@ -33,11 +33,6 @@ drawn s = cond (s.charge == 0) (supply false s.charge s.tear) (supply s.power (s
 abbrev pub admitting_raise : Bool → ℕ → ℕ → Result (Unit {0}) Fault
 admitting_raise power count ceiling = cond power (cond (nat_lt count ceiling) (Ok tt) (Err (fault CountFull Memory))) (Err (fault PowerOff Memory))
 
--- What the caller is told of a change, where f is the fault of a cut.
-abbrev pub cut_told : Result (Unit {0}) Tear → Fault → Result (Unit {0}) Fault
-cut_told (Ok _) f = Ok tt
-cut_told (Err _) f = Err f
-
 -- What a row becomes that was to become another.
 abbrev pub left_row : Result (Unit {0}) Tear → Row → Row → Row
 left_row (Ok _) old new = new

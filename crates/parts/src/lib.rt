@@ -28,7 +28,7 @@ pub struct Part<R, C> {
 }
 
 /// Why no part was made: a size out of range, or want of memory of the host.
-#[derive(Clone, Copy, Debug)]
+#[derive(Clone, Copy, Debug, PartialEq, Eq)]
 pub enum NotMade {
     Shape(Fault),
     NoMemory(AllocError),
@@ -60,7 +60,7 @@ pub type Rewriting = Part<PlainRow, Register>;
 /// A part whose rows have marks and whose count is in bits that are only cleared.
 pub type Flash = Part<FlashRow, Strip>;
 
-// So many blank rows.
+// So many blank rows. A loop: `repeat_with` over a function of a type parameter is not covered by the proofs.
 fn blank_rows<R: Cell + Drop>(heap: Global, size: u16) -> Result<Vec<R>, AllocError>
     ensures rows { IfOk result (λ v. map R.Cell.means v.items ≡ replicate size blank_row) }
     ensures size { IfOk result (λ v. vec_len v ≡ size) }
@@ -106,7 +106,8 @@ impl<R: Cell, C: Counter> Part<R, C> {
         Ok(())
     }
 
-    // Writes a row with bytes, or blanks it where there are none, or makes of it what the cut leaves.
+    // Writes a row with bytes, or blanks it where there are none, or makes of it what the cut leaves. The bytes go by value,
+    // since a clause looks through an `Option` and not through a reference in it.
     fn put(&mut self, row: u16, bytes: Option<[u8; ROW_BYTES]>) -> Result<(), Fault>
         ensures answer { result ≡ (putting (meaning_of R.Cell.means C.Counter.counted C.Counter.limit self.old) row (becoming bytes)).0 }
         ensures after { meaning_of R.Cell.means C.Counter.counted C.Counter.limit self.new ≡ (putting (meaning_of R.Cell.means C.Counter.counted C.Counter.limit self.old) row (becoming bytes)).1 }
@@ -162,6 +163,7 @@ impl<R: Cell, C: Counter> Memory for Part<R, C> {
         drawn.map_err(|_| Fault::new(Case::PowerCut, Layer::Memory))
     }
 
+    #[tactic(auto, unfolding(memory::specs::Model::powering_up))]
     fn power_up(&mut self, charge: u32, tear: u8) -> Result<(), Fault> {
         self.supply = Supply {
             power: true,

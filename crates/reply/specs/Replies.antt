@@ -4,7 +4,6 @@ use Rattle.base.specs.declared.Fault.{Fault}
 use Rattle.base.specs.Faults.{number, layer_number, row_number}
 use Rattle.memory.specs.declared.RowKind.{RowKind}
 use Rattle.memory.specs.declared.RowKind.TheVariants.{Written, Blank, Spoilt}
-use Rattle.loader.specs.Image.{slot_number}
 use Rattle.script.specs.Words.{hex_text}
 use Rattle.reply.specs.declared.Reply.{Reply}
 use Rattle.reply.specs.declared.Reply.TheVariants.{Done, Refused, Misuse, Row, Count, Rows, Loaded}
@@ -27,7 +26,7 @@ said Misuse = misuse
 said (Row k bs) = row k bs
 said (Count n ceiling) = count n ceiling
 said (Rows ks) = rows (vec_items ks)
-said (Loaded image) = loaded (slot_number image.slot) image.version
+said (Loaded slot version) = loaded slot version
 
 -- A row's kind, before its bytes and as a letter.
 abbrev pub kind_text : RowKind → List ℕ

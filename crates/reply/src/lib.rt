@@ -6,7 +6,6 @@ ghost use Rattle.script.specs.Words.{hex_text};
 ghost use Rattle.reply.specs.Replies.{said, kind_text, kind_letter, text_of, line_text};
 
 use base::{Fault, ROW_BYTES};
-use loader::Image;
 use memory::RowKind;
 use std::alloc::AllocError;
 use std::fmt;
@@ -20,7 +19,7 @@ pub enum Reply {
     Row(RowKind, [u8; ROW_BYTES]),
     Count(u32, u32),
     Rows(Vec<RowKind>),
-    Loaded(Image),
+    Loaded(u8, u64),
 }
 
 // Bytes, with two digits in lower case each.
@@ -93,12 +92,7 @@ impl fmt::Display for Reply {
             Reply::Row(kind, bytes) => write!(f, "{}{}", kind_text(*kind), Hex(bytes)),
             Reply::Count(count, ceiling) => write!(f, "{count} of {ceiling}"),
             Reply::Rows(kinds) => write!(f, "{}", Letters(kinds)),
-            Reply::Loaded(image) => write!(
-                f,
-                "slot {} version {}",
-                u8::from(image.slot),
-                image.version
-            ),
+            Reply::Loaded(slot, version) => write!(f, "slot {slot} version {version}"),
         }
     }
 }

@@ -33,7 +33,8 @@ pub(crate) struct Rig {
 impl Store {
     ghost use Rattle.rig.specs.Store.{setup_of};
 
-    // Opens a window onto the memory, unless there are two already.
+    // Opens a window onto the memory, unless there are two already. The first two arms differ in their variants alone; a
+    // function of both would be handed four, and say less.
     fn windowed(self, first: u16, count: u16) -> (Reply, Store)
         ensures said { said result.0 ≡ (windowing (setup_of self) first count).0 }
         ensures leaves { setup_of result.1 ≡ (windowing (setup_of self) first count).1 }
@@ -114,10 +115,10 @@ impl Rig {
     fn hand_on(&mut self, command: &Command) -> Result<Reply, AllocError>
         ensures { Answered result (on_setup (desk_of self.old) (worked command.now)) (desk_of self.old) (desk_of self.new) }
     {
-        match &mut self.store {
-            Some(store) => store.perform(self.heap, command),
-            None => Ok(Reply::Misuse),
-        }
+        let Some(store) = &mut self.store else {
+            return Ok(Reply::Misuse);
+        };
+        store.perform(self.heap, command)
     }
 
     // Performs a command. Want of memory of the host leaves all as it was.

@@ -16,29 +16,23 @@ use std::alloc::{AllocError, Global};
 fn told(answer: Result<(), Fault>) -> Reply
     ensures { said result ≡ told_of answer }
 {
-    match answer {
-        Ok(()) => Reply::Done,
-        Err(fault) => Reply::Refused(fault),
-    }
+    answer.map_or_else(Reply::Refused, |()| Reply::Done)
 }
 
 fn read_row<M: Rows>(memory: &M, row: u16) -> Reply
     ensures { said result ≡ read_told (M.held memory.now) row }
 {
     let mut area = [0; ROW_BYTES];
-    match memory.read(row, &mut area) {
-        Ok(kind) => Reply::Row(kind, area),
-        Err(fault) => Reply::Refused(fault),
-    }
+    let answer = memory.read(row, &mut area);
+    answer.map_or_else(Reply::Refused, |kind| Reply::Row(kind, area))
 }
 
 fn load_image<M: Rows>(memory: &M, slot_rows: u16) -> Reply
     ensures { said result ≡ load_told (loading (M.held memory.now) slot_rows) }
 {
-    match load(memory, slot_rows) {
-        Ok(image) => Reply::Loaded(image),
-        Err(fault) => Reply::Refused(fault),
-    }
+    load(memory, slot_rows).map_or_else(Reply::Refused, |image| {
+        Reply::Loaded(u8::from(image.slot), image.version)
+    })
 }
 
 // The kinds of all rows.

@@ -21,6 +21,7 @@ pub struct Subkeys {
 }
 
 // A block shifted by one bit to the left; a bit that falls out comes back as 0x87.
+#[tactic(auto, using(crate::proofs::Macs::doubled_is))]
 fn doubled(block: Block) -> Block
     ensures { result ≡ doubled_block block }
 {

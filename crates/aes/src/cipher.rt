@@ -36,6 +36,7 @@ fn turned(word: u32, constant: u8) -> u32
 }
 
 // The round key after a round key.
+#[tactic(auto, using(crate::proofs::Columns::next_is))]
 fn next_key(key: Block, constant: u8) -> Block
     ensures { result ≡ next_key constant key }
 {
@@ -79,6 +80,7 @@ fn unmixed(a: u32, b: u32, c: u32, d: u32, key: u32) -> u32
 }
 
 // A round: the rows are shifted by the choice of the columns.
+#[tactic(auto, using(crate::proofs::Columns::round_is))]
 fn one_round(s: Block, key: Block) -> Block
     ensures { result ≡ one_round s key }
 {
@@ -91,6 +93,7 @@ fn one_round(s: Block, key: Block) -> Block
 }
 
 // The last round, which mixes no columns.
+#[tactic(auto, using(crate::proofs::Columns::last_is))]
 fn last_round(s: Block, key: Block) -> Block
     ensures { result ≡ last_round s key }
 {

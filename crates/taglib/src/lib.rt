@@ -9,7 +9,7 @@ ghost use Rattle.aes.specs.Mac.{cmac_tag};
 ghost use Rattle.taglib.specs.Calls.{keyed_answer, shown};
 
 use aes::Cmac;
-use base::{Case, Fault, KEY_BYTES, Layer, clear};
+use base::{Case, Fault, Layer, clear};
 use tagging::{SipHash, Tagger};
 
 // Writes the tag under a key that has to have sixteen bytes.
@@ -24,7 +24,7 @@ fn tag_keyed<T: Tagger>(
     ensures out { out.new ≡ after result (tag_first (T.Tagger.tag_of tagger.now key.now text.now) out.old) out.old }
     ensures clean { work.new ≡ zeros (length work.old) }
 {
-    let Ok(key) = <&[u8; KEY_BYTES]>::try_from(key) else {
+    let Some(key) = key.as_array() else {
         clear(work);
         return Err(Fault::new(Case::BadShape, Layer::Common));
     };

@@ -19,6 +19,7 @@ fn told(answer: Result<(), Fault>) -> Reply
     answer.map_or_else(Reply::Refused, |()| Reply::Done)
 }
 
+#[tactic(auto, unfolding(crate::specs::Working::read_told))]
 fn read_row<M: Rows>(memory: &M, row: u16) -> Reply
     ensures { said result ≡ read_told (M.held memory.now) row }
 {

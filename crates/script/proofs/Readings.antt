@@ -4,7 +4,7 @@ use Rattle.std.specs.Cmp.Lexicographic.{pointwise}
 use Rattle.std.specs.Bool.{then_some}
 use Rattle.std.specs.Result.{OkIff, result_ok}
 use Rattle.std.specs.Option.{option_map, option_zip, option_and_then}
-use Rattle.std.proofs.lemmas.List.{append-nil, append_assoc, at_drop_all, drop_more, take_all, take_more_set}
+use Rattle.std.proofs.lemmas.List.{append-nil, nil_from_length, append_assoc, at_drop_all, drop_more, take_all, take_more_set}
 use Rattle.std.proofs.lemmas.Bool.{lt-leb, le-leb, ne_eqb, eq-eqb, eqb-true, eqb-false}
 use Rattle.std.proofs.lemmas.Bool.Decides.{nat_tests}
 use Rattle.script.specs.Words.{digit_in, number_of, number_to, bits64, number_from, in_base, is_hex, at_most, byte_of, bytes_of, bytes_in}
@@ -148,15 +148,11 @@ fills_bad n word bytes digits i f two e =
 pub fills_short : (n : ℕ) (word bytes digits : List ℕ) (i : ℕ) → Fills word bytes digits i → length digits < 2 → i < n → None ≡ bytes_in n word
 fills_short n word bytes digits i f short at = other_length n word (λ e. absurd (omega (arith, f.left)))
 
-none_left : (ds : List ℕ) → length ds ≡ 0 → ds ≡ []
-none_left [] e = refl
-none_left (d ∷ ds) e = absurd (omega (arith, e))
-
 pub fills_end : (n : ℕ) (word bytes digits : List ℕ) (i : ℕ) → Fills word bytes digits i → length bytes ≡ n → i ≡ n → (b : Bool) → b ≡ eqb (length digits) 0 → then_some b bytes ≡ bytes_in n word
 unfolding bytes_in bytes_of
 fills_end n word bytes digits i f long at true e =
     let none : length digits ≡ 0 = eqb-true (length digits) 0 (sym e) in
     let t : eqb (length word) (2 * n) ≡ true = eq-eqb _ _ (omega (arith, f.left)) in
-    let whole : option_map (λ bs. take i bytes ++ bs) (bytes_of digits) ≡ Some bytes = ap (λ ds. option_map (λ bs. take i bytes ++ bs) (bytes_of ds)) (none_left digits none) ∙ ap Some (append-nil (take i bytes) ∙ take_all i bytes (omega arith)) in
+    let whole : option_map (λ bs. take i bytes ++ bs) (bytes_of digits) ≡ Some bytes = ap (λ ds. option_map (λ bs. take i bytes ++ bs) (bytes_of ds)) (nil_from_length digits none) ∙ ap Some (append-nil (take i bytes) ∙ take_all i bytes (omega arith)) in
     simp (t, ← f.writes, whole)
 fills_end n word bytes digits i f long at false e = other_length n word (λ h. absurd (omega (arith, f.left, eqb-false (length digits) 0 (sym e))))

@@ -42,7 +42,7 @@ impl FromWord for Style {
 }
 
 // The command, where no word is left.
-fn none(mut words: Words, command: Command) -> Option<Command>
+fn alone(mut words: Words, command: Command) -> Option<Command>
     ensures { result ≡ alone command words.entry }
 {
     match words.next() {
@@ -78,13 +78,13 @@ fn named(name: &[u8], words: Words) -> Option<Command>
         "part" => two(words).map(|(style, rows)| Command::Part(style, rows)),
         "window" => two(words).map(|(first, rows)| Command::Window(first, rows)),
         "power" => two(words).map(|(charge, tear)| Command::Power(charge, tear)),
-        "off" => none(words, Command::Off),
+        "off" => alone(words, Command::Off),
         "write" => two(words).map(|(row, bytes)| Command::Write(row, bytes)),
         "blank" => one(words).map(Command::Blank),
-        "raise" => none(words, Command::Raise),
+        "raise" => alone(words, Command::Raise),
         "read" => one(words).map(Command::Read),
-        "count" => none(words, Command::Count),
-        "rows" => none(words, Command::Rows),
+        "count" => alone(words, Command::Count),
+        "rows" => alone(words, Command::Rows),
         "load" => one(words).map(Command::Load),
         _ => None,
     }

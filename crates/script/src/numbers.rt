@@ -16,7 +16,8 @@ pub(crate) trait FromWord: Sized + Drop {
         ensures { result ≡ said word.now };
 }
 
-// The value of a digit that is below the base.
+// The value of a digit that is below the base. The library's `to_digit` and `from_str_radix` also take upper case, and the
+// latter a sign; a script refuses both.
 fn digit(byte: u8, base: u8) -> Option<u8>
     ensures is { result ≡ digit_in base byte }
     ensures small { IfSome result (λ d. d < base) }
@@ -62,10 +63,12 @@ fn number(word: &[u8]) -> Option<u64>
     }
 }
 
-// A blanket impl over `TryFrom<u64>` has no `said`: that trait tells what a conversion gives by a relation.
+// Three impls: a blanket one over `TryFrom<u64>` is in the way of the impls below and of those for other types, and has no
+// `said`, since that trait tells what a conversion gives by a relation.
 impl FromWord for u8 {
     ghost said = { bits8 };
 
+    #[tactic(auto, using(crate::proofs::Readings::no_number, crate::proofs::Readings::narrowed))]
     fn from_word(word: &[u8]) -> Option<u8> {
         u8::try_from(number(word)?).ok()
     }
@@ -74,6 +77,7 @@ impl FromWord for u8 {
 impl FromWord for u16 {
     ghost said = { bits16 };
 
+    #[tactic(auto, using(crate::proofs::Readings::no_number, crate::proofs::Readings::narrowed))]
     fn from_word(word: &[u8]) -> Option<u16> {
         u16::try_from(number(word)?).ok()
     }
@@ -82,6 +86,7 @@ impl FromWord for u16 {
 impl FromWord for u32 {
     ghost said = { bits32 };
 
+    #[tactic(auto, using(crate::proofs::Readings::no_number, crate::proofs::Readings::narrowed))]
     fn from_word(word: &[u8]) -> Option<u32> {
         u32::try_from(number(word)?).ok()
     }
@@ -94,7 +99,8 @@ fn byte(high: u8, low: u8) -> Option<u8>
     Some(digit(high, HEX)? * HEX + digit(low, HEX)?)
 }
 
-// The bytes of a row are two digits each. The crate `hex` also takes upper case, which a script refuses.
+// The bytes of a row are two digits each. The crate `hex` also takes upper case, which a script refuses. A chain of pairs would
+// say nothing of the array at a word that is too short, so the digits are cut off one pair after another.
 impl FromWord for [u8; ROW_BYTES] {
     ghost said = { row_bytes };
 

@@ -38,7 +38,7 @@ fn cut(text: &[u8], byte: u8) -> (&[u8], Option<&[u8]>)
 fn is_white(byte: u8) -> bool
     ensures { result ≡ white byte }
 {
-    matches!(byte, 9..=13 | SPACE)
+    matches!(byte, b'\t'..=b'\r' | SPACE)
 }
 
 // How many bytes of white space stand at the front.
@@ -127,7 +127,8 @@ impl<'a> Iterator for Lines<'a> {
     }
 }
 
-// The words of a line that are left: a space stands between each and the next.
+// The words of a line that are left: a space stands between each and the next. It is no `split` of the library, so that a
+// clause of a function that takes the words can name them: they are what the type means.
 #[derive(Drop)]
 pub(crate) struct Words<'a> {
     rest: Option<&'a [u8]>,

@@ -8,8 +8,8 @@ use base::{Fault, ROW_BYTES};
 use memory::{Memory, Probe, RowKind, Rows};
 
 /// The one or the other.
-// The library's `Either` cannot be it: its impls here would be of another crate's trait for another crate's type. The
-// matches of two arms below are written out, since each is a call on each side and no more.
+// The library's `Either` cannot be it here: these would be impls of another crate's trait for another crate's type. A match
+// stands in each call, and no macro for both arms, so that a slip on one side is told from the other.
 #[derive(Drop)]
 pub enum Either<A, B> {
     Left(A),

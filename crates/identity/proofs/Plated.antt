@@ -3,7 +3,7 @@ use Rattle.std.proofs.Common.{◌≡◌, ℕ, zero, suc, ◌-◌, ◌<◌, ◌�
 use lib.ListN.{length-replicate}
 use Rattle.std.proofs.lemmas.List.{length-take-le, drop-replicate}
 use Rattle.std.proofs.lemmas.List.Folds.{list_all-append}
-use Rattle.std.proofs.lemmas.Bool.{false≢true, and_parts, and_from, and_right, not-true, not_from_false, eqb-true, eq-eqb, ltb-true, lt-ltb, leb-true, le-leb, cond-true, cond-false}
+use Rattle.std.proofs.lemmas.Bool.{and_left, false≢true, and_parts, and_from, and_right, not-true, not_from_false, eqb-true, eq-eqb, ltb-true, lt-ltb, leb-true, le-leb, cond-true, cond-false}
 use Rattle.base.specs.declared.Case.TheVariants.{BadShape}
 use Rattle.base.specs.declared.Fault.{Fault}
 use Rattle.base.specs.declared.Layer.TheVariants.{Common}
@@ -65,13 +65,10 @@ spaces_trimmed (suc n) = cond-true (all_spaces (replicate n space)) [] (space �
 good-append : (t r : List ℕ) → all_printable t ≡ true → all_printable r ≡ true → all_printable (t ++ r) ≡ true
 good-append t r e f = list_all-append is_printable t r ∙ and_from (all_printable t) (all_printable r) e f
 
-not_left : (x y : Bool) → x ≡ false → (x && y) ≡ false
-not_left x y e = ap (λ (b : Bool). b && y) e
-
 -- A text that does not end in a space is not all spaces, whatever follows it.
 not_spaces : (t r : List ℕ) → 0 < length t → eqb (last_byte t) space ≡ false → all_spaces (t ++ r) ≡ false
 not_spaces [] r h e = absurd (omega arith)
-not_spaces (b ∷ []) r h e = not_left (eqb b space) (all_spaces r) e
+not_spaces (b ∷ []) r h e = and_left (eqb b space) (all_spaces r) e
 not_spaces (b ∷ c ∷ t) r h e =
     and_right (eqb b space) (all_spaces ((c ∷ t) ++ r)) (not_spaces (c ∷ t) r (omega arith) (ap (λ (x : ℕ). eqb x space) (sym (last_more b c t)) ∙ e))
 
@@ -79,7 +76,7 @@ not_spaces (b ∷ c ∷ t) r h e =
 trimmed-append : (t : List ℕ) (n : ℕ) → 0 < length t → eqb (last_byte t) space ≡ false → trimmed (t ++ replicate n space) ≡ t
 trimmed-append [] n h e = absurd (omega arith)
 trimmed-append (b ∷ []) n h e =
-    cond-false (eqb b space && all_spaces (replicate n space)) [] (b ∷ trimmed (replicate n space)) (not_left (eqb b space) (all_spaces (replicate n space)) e)
+    cond-false (eqb b space && all_spaces (replicate n space)) [] (b ∷ trimmed (replicate n space)) (and_left (eqb b space) (all_spaces (replicate n space)) e)
     ∙ ap (λ (bs : List ℕ). b ∷ bs) (spaces_trimmed n)
 trimmed-append (b ∷ c ∷ t) n h e =
     let f : eqb (last_byte (c ∷ t)) space ≡ false = ap (λ (x : ℕ). eqb x space) (sym (last_more b c t)) ∙ e in

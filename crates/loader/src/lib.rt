@@ -90,7 +90,8 @@ impl<R: Rows> Slots<'_, R> {
         }
     }
 
-    // The image in a slot, if it is whole: read row by row, up to the first that is not written.
+    // The image in a slot, if it is whole: read row by row, up to the first that is not written. Its version is in the first
+    // row, which is read in the same turn as the others, and is 0, which no image has, before that.
     fn look(&self, slot: Slot) -> Result<Option<Image>, Fault>
         ensures { result ≡ looking (R.held self.now.rows.now) self.now.slot_rows slot }
     {

@@ -23,7 +23,7 @@ leading_front n bs xs e h = ap (number_from_digits 256) (take_all n bs (omega (a
 pub word_in_front : (bs xs : List ℕ) → bs ≡ take 8 xs → 8 ≤ length xs → from_be_bytes w64 bs ≡ leading 8 xs
 word_in_front bs xs e h = word_of bs (ap length e ∙ length-take-le 8 xs h) ∙ leading_front 8 bs xs e h
 
-pub half_in_front : (bs xs : List ℕ) → bs ≡ take 4 xs → 4 ≤ length xs → from_be_bytes w32 bs ≡ leading 4 xs
+half_in_front : (bs xs : List ℕ) → bs ≡ take 4 xs → 4 ≤ length xs → from_be_bytes w32 bs ≡ leading 4 xs
 half_in_front bs xs e h = half_of bs (ap length e ∙ length-take-le 4 xs h) ∙ leading_front 4 bs xs e h
 
 pub word_bytes : (v : ℕ) → to_be_bytes w64 v ≡ big_endian 8 v

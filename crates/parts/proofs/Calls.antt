@@ -58,16 +58,17 @@ gate_through true false f g x o p q = absurd (both_ways false refl q)
 gate_through false b f g x o p q = absurd (both_ways false refl p)
 
 -- A row that is not admitted stays, and all else.
-put_refused : (m : Mem) (i : ℕ) (x : Row) (f : Fault) → Err f ≡ admitting m.held i → (Err f ≡ (putting m i x).0) × (m ≡ (putting m i x).1)
-unfolding putting
-put_refused m i x f e =
-    halves (putting m i x) (Err f) (Err f) m (gate_shut (ltb i (length m.held.rows)) m.held.power (fault_at NoRow Memory i) (fault_at PowerOff Memory i) m _ f e) refl
+module _ (m : Mem) (i : ℕ) (x : Row) (f : Fault) (e : Err f ≡ admitting m.held i) where
+  put_refused : (Err f ≡ (putting m i x).0) × (m ≡ (putting m i x).1)
+  unfolding putting
+  put_refused =
+      halves (putting m i x) (Err f) (Err f) m (gate_shut (ltb i (length m.held.rows)) m.held.power (fault_at NoRow Memory i) (fault_at PowerOff Memory i) m _ f e) refl
 
-pub put_refused-answer : (m : Mem) (i : ℕ) (x : Row) (f : Fault) → Err f ≡ admitting m.held i → Err f ≡ (putting m i x).0
-put_refused-answer m i x f e = (put_refused m i x f e).0
+  pub put_refused-answer : Err f ≡ (putting m i x).0
+  put_refused-answer = put_refused.0
 
-pub put_refused-after : (m : Mem) (i : ℕ) (x : Row) (f : Fault) → Err f ≡ admitting m.held i → m ≡ (putting m i x).1
-put_refused-after m i x f e = (put_refused m i x f e).1
+  pub put_refused-after : m ≡ (putting m i x).1
+  put_refused-after = put_refused.1
 
 -- A row that is admitted is one of the rows, and power is on.
 pub admitted : (h : Held) (i : ℕ) (u : Unit {0}) → Ok u ≡ admitting h i → (ltb i (length h.rows) ≡ true) × (h.power ≡ true)
@@ -116,45 +117,48 @@ row-changed means xs i old w d x lt is e =
     map-set means xs i w ∙ ap (λ (y : Row). set (map means xs) i y) (e ∙ ap (λ (o : Row). left_row d o x) (sym was))
 
 -- What a part answers to a change, and what it means then.
-put_part : {R C : Type 0} (means : R → Row) (counted : C → ℕ) (limit : ℕ) (p : Part R C) (i : ℕ) (x : Row) (u : Unit {0}) (old w : R) (d : Result (Unit {0}) Tear) (s : Supply) (r : Result (Unit {0}) Fault) → Ok u ≡ admitting (held_of means p) i → old ≡ get_or (vec_items p.cells) i old → means w ≡ left_row d (means old) x → d ≡ drawing p.supply → s ≡ drawn p.supply → r ≡ cut_told d (fault_at PowerCut Memory i) → (r ≡ (putting (meaning_of means counted limit p) i x).0) × (◌≡◌ {A = Mem} (mem (map means (set (vec_items p.cells) i w)) (counted p.counter) limit s) (putting (meaning_of means counted limit p) i x).1)
-put_part means counted limit p i x u old w d s r admits is e d-is s-is told =
-    let put = put_admitted (map means (vec_items p.cells)) (counted p.counter) limit p.supply i x u admits in
-    let rows = row-changed means (vec_items p.cells) i old w d x (inside means p i u admits) is e in
-    halves (putting (meaning_of means counted limit p) i x) r (cut_told d (fault_at PowerCut Memory i)) _ (cc) told
+module _ {R C : Type 0} (means : R → Row) (counted : C → ℕ) (limit : ℕ) (p : Part R C) (i : ℕ) (x : Row) (u : Unit {0}) (old w : R) (d : Result (Unit {0}) Tear) (s : Supply) (r : Result (Unit {0}) Fault) (admits : Ok u ≡ admitting (held_of means p) i) (is : old ≡ get_or (vec_items p.cells) i old) (e : means w ≡ left_row d (means old) x) (d-is : d ≡ drawing p.supply) (s-is : s ≡ drawn p.supply) (told : r ≡ cut_told d (fault_at PowerCut Memory i)) where
+  put_part : (r ≡ (putting (meaning_of means counted limit p) i x).0) × (◌≡◌ {A = Mem} (mem (map means (set (vec_items p.cells) i w)) (counted p.counter) limit s) (putting (meaning_of means counted limit p) i x).1)
+  put_part =
+      let put = put_admitted (map means (vec_items p.cells)) (counted p.counter) limit p.supply i x u admits in
+      let rows = row-changed means (vec_items p.cells) i old w d x (inside means p i u admits) is e in
+      halves (putting (meaning_of means counted limit p) i x) r (cut_told d (fault_at PowerCut Memory i)) _ (cc) told
 
-pub put_part-answer : {R C : Type 0} (means : R → Row) (counted : C → ℕ) (limit : ℕ) (p : Part R C) (i : ℕ) (x : Row) (u : Unit {0}) (old w : R) (d : Result (Unit {0}) Tear) (s : Supply) (r : Result (Unit {0}) Fault) → Ok u ≡ admitting (held_of means p) i → old ≡ get_or (vec_items p.cells) i old → means w ≡ left_row d (means old) x → d ≡ drawing p.supply → s ≡ drawn p.supply → r ≡ cut_told d (fault_at PowerCut Memory i) → r ≡ (putting (meaning_of means counted limit p) i x).0
-put_part-answer means counted limit p i x u old w d s r admits is e d-is s-is told = (put_part means counted limit p i x u old w d s r admits is e d-is s-is told).0
+  pub put_part-answer : r ≡ (putting (meaning_of means counted limit p) i x).0
+  put_part-answer = put_part.0
 
-pub put_part-after : {R C : Type 0} (means : R → Row) (counted : C → ℕ) (limit : ℕ) (p : Part R C) (i : ℕ) (x : Row) (u : Unit {0}) (old w : R) (d : Result (Unit {0}) Tear) (s : Supply) (r : Result (Unit {0}) Fault) → Ok u ≡ admitting (held_of means p) i → old ≡ get_or (vec_items p.cells) i old → means w ≡ left_row d (means old) x → d ≡ drawing p.supply → s ≡ drawn p.supply → r ≡ cut_told d (fault_at PowerCut Memory i) → ◌≡◌ {A = Mem} (mem (map means (set (vec_items p.cells) i w)) (counted p.counter) limit s) (putting (meaning_of means counted limit p) i x).1
-put_part-after means counted limit p i x u old w d s r admits is e d-is s-is told = (put_part means counted limit p i x u old w d s r admits is e d-is s-is told).1
+  pub put_part-after : ◌≡◌ {A = Mem} (mem (map means (set (vec_items p.cells) i w)) (counted p.counter) limit s) (putting (meaning_of means counted limit p) i x).1
+  put_part-after = put_part.1
 
 -- A row that is not admitted is not read.
-read-refused : (h : Held) (i : ℕ) (area : List ℕ) (f : Fault) → Err f ≡ admitting h i → (Err f ≡ (reading h i area).0) × (area ≡ (reading h i area).1)
-unfolding reading
-read-refused h i area f e =
-    halves (reading h i area) (Err f) (Err f) area (gate_shut (ltb i (length h.rows)) h.power (fault_at NoRow Memory i) (fault_at PowerOff Memory i) area _ f e) refl
+module _ (h : Held) (i : ℕ) (area : List ℕ) (f : Fault) (e : Err f ≡ admitting h i) where
+  read-refused : (Err f ≡ (reading h i area).0) × (area ≡ (reading h i area).1)
+  unfolding reading
+  read-refused =
+      halves (reading h i area) (Err f) (Err f) area (gate_shut (ltb i (length h.rows)) h.power (fault_at NoRow Memory i) (fault_at PowerOff Memory i) area _ f e) refl
 
-pub read-refused-answer : (h : Held) (i : ℕ) (area : List ℕ) (f : Fault) → Err f ≡ admitting h i → Err f ≡ (reading h i area).0
-read-refused-answer h i area f e = (read-refused h i area f e).0
+  pub read-refused-answer : Err f ≡ (reading h i area).0
+  read-refused-answer = read-refused.0
 
-pub read-refused-area : (h : Held) (i : ℕ) (area : List ℕ) (f : Fault) → Err f ≡ admitting h i → area ≡ (reading h i area).1
-read-refused-area h i area f e = (read-refused h i area f e).1
+  pub read-refused-area : area ≡ (reading h i area).1
+  read-refused-area = read-refused.1
 
 -- What a part answers to a reading, and what the area holds then.
-read-part : {R C : Type 0} (means : R → Row) (p : Part R C) (i : ℕ) (area : List ℕ) (u : Unit {0}) (old : R) (k : RowKind) (shown : List ℕ) → Ok u ≡ admitting (held_of means p) i → old ≡ get_or (vec_items p.cells) i old → k ≡ kind_of (means old) → shown ≡ shown_of (means old) → (◌≡◌ {A = Result RowKind Fault} (Ok k) (reading (held_of means p) i area).0) × (shown ≡ (reading (held_of means p) i area).1)
-unfolding reading
-read-part means p i area u old k shown admits is kind-is shown-is =
-    let both = admitted (held_of means p) i u admits in
-    let was = row_means means (vec_items p.cells) i old (inside means p i u admits) is in
-    let through : reading (held_of means p) i area ≡ (Ok (kind_of (at (held_of means p) i)), shown_of (at (held_of means p) i)) =
-    gate_through (ltb i (length (held_of means p).rows)) p.supply.power (fault_at NoRow Memory i) (fault_at PowerOff Memory i) area _ both.0 both.1 in
-    halves (reading (held_of means p) i area) (Ok k) (Ok k) shown (cc) refl
+module _ {R C : Type 0} (means : R → Row) (p : Part R C) (i : ℕ) (area : List ℕ) (u : Unit {0}) (old : R) (k : RowKind) (shown : List ℕ) (admits : Ok u ≡ admitting (held_of means p) i) (is : old ≡ get_or (vec_items p.cells) i old) (kind-is : k ≡ kind_of (means old)) (shown-is : shown ≡ shown_of (means old)) where
+  read-part : (◌≡◌ {A = Result RowKind Fault} (Ok k) (reading (held_of means p) i area).0) × (shown ≡ (reading (held_of means p) i area).1)
+  unfolding reading
+  read-part =
+      let both = admitted (held_of means p) i u admits in
+      let was = row_means means (vec_items p.cells) i old (inside means p i u admits) is in
+      let through : reading (held_of means p) i area ≡ (Ok (kind_of (at (held_of means p) i)), shown_of (at (held_of means p) i)) =
+      gate_through (ltb i (length (held_of means p).rows)) p.supply.power (fault_at NoRow Memory i) (fault_at PowerOff Memory i) area _ both.0 both.1 in
+      halves (reading (held_of means p) i area) (Ok k) (Ok k) shown (cc) refl
 
-pub read-part-answer : {R C : Type 0} (means : R → Row) (p : Part R C) (i : ℕ) (area : List ℕ) (u : Unit {0}) (old : R) (k : RowKind) (shown : List ℕ) → Ok u ≡ admitting (held_of means p) i → old ≡ get_or (vec_items p.cells) i old → k ≡ kind_of (means old) → shown ≡ shown_of (means old) → ◌≡◌ {A = Result RowKind Fault} (Ok k) (reading (held_of means p) i area).0
-read-part-answer means p i area u old k shown admits is kind-is shown-is = (read-part means p i area u old k shown admits is kind-is shown-is).0
+  pub read-part-answer : ◌≡◌ {A = Result RowKind Fault} (Ok k) (reading (held_of means p) i area).0
+  read-part-answer = read-part.0
 
-pub read-part-area : {R C : Type 0} (means : R → Row) (p : Part R C) (i : ℕ) (area : List ℕ) (u : Unit {0}) (old : R) (k : RowKind) (shown : List ℕ) → Ok u ≡ admitting (held_of means p) i → old ≡ get_or (vec_items p.cells) i old → k ≡ kind_of (means old) → shown ≡ shown_of (means old) → shown ≡ (reading (held_of means p) i area).1
-read-part-area means p i area u old k shown admits is kind-is shown-is = (read-part means p i area u old k shown admits is kind-is shown-is).1
+  pub read-part-area : shown ≡ (reading (held_of means p) i area).1
+  read-part-area = read-part.1
 
 -- Raising with and without charge, by tear.
 raise-by : (rows : List Row) (n top : ℕ) (power : Bool) (charge : ℕ) (t : Tear) (none : Bool) → let m = mem rows n top (supply power charge t) in ◌≡◌ {A = Outcome} (cond none (Err (fault PowerCut Memory), with_power (with_count m (cond (eqb (tear_number t) 1) (n + 1) n)) false) (Ok tt, spent (with_count m (n + 1)))) (cut_told (drawing_by none t) (fault PowerCut Memory), mem rows (left_count (drawing_by none t) n (n + 1)) top (drawn_by none (supply power charge t)))
@@ -164,16 +168,17 @@ raise-by rows n top power charge Spoilt true = refl
 raise-by rows n top power charge t false = refl
 
 -- A count that may not rise stays, and all else.
-raise-refused : (m : Mem) (n top : ℕ) (f : Fault) → n ≡ m.count → top ≡ m.ceiling → Err f ≡ admitting_raise m.held.power n top → (Err f ≡ (raising m).0) × (m ≡ (raising m).1)
-unfolding raising
-raise-refused m n top f n-is top-is e =
-    halves (raising m) (Err f) (Err f) m (gate_shut m.held.power (ltb m.count m.ceiling) (fault PowerOff Memory) (fault CountFull Memory) m _ f (rw (n-is, top-is) at e)) refl
+module _ (m : Mem) (n top : ℕ) (f : Fault) (n-is : n ≡ m.count) (top-is : top ≡ m.ceiling) (e : Err f ≡ admitting_raise m.held.power n top) where
+  raise-refused : (Err f ≡ (raising m).0) × (m ≡ (raising m).1)
+  unfolding raising
+  raise-refused =
+      halves (raising m) (Err f) (Err f) m (gate_shut m.held.power (ltb m.count m.ceiling) (fault PowerOff Memory) (fault CountFull Memory) m _ f (rw (n-is, top-is) at e)) refl
 
-pub raise-refused-answer : (m : Mem) (n top : ℕ) (f : Fault) → n ≡ m.count → top ≡ m.ceiling → Err f ≡ admitting_raise m.held.power n top → Err f ≡ (raising m).0
-raise-refused-answer m n top f n-is top-is e = (raise-refused m n top f n-is top-is e).0
+  pub raise-refused-answer : Err f ≡ (raising m).0
+  raise-refused-answer = raise-refused.0
 
-pub raise-refused-after : (m : Mem) (n top : ℕ) (f : Fault) → n ≡ m.count → top ≡ m.ceiling → Err f ≡ admitting_raise m.held.power n top → m ≡ (raising m).1
-raise-refused-after m n top f n-is top-is e = (raise-refused m n top f n-is top-is e).1
+  pub raise-refused-after : m ≡ (raising m).1
+  raise-refused-after = raise-refused.1
 
 -- A count that may rise becomes what the supply makes of it.
 raise_through : (rows : List Row) (n top : ℕ) (s : Supply) (u : Unit {0}) → Ok u ≡ admitting_raise s.power n top → raising (mem rows n top s) ≡ (cut_told (drawing s) (fault PowerCut Memory), mem rows (left_count (drawing s) n (n + 1)) top (drawn s))
@@ -184,15 +189,16 @@ raise_through rows n top s u e =
     ∙ raise-by rows n top s.power s.charge s.tear (eqb s.charge 0)
 
 -- What a part answers to a raising, and what it means then.
-raise-part : {R C : Type 0} (means : R → Row) (counted : C → ℕ) (limit : ℕ) (p : Part R C) (n top : ℕ) (u : Unit {0}) (w : C) (d : Result (Unit {0}) Tear) (s : Supply) (r : Result (Unit {0}) Fault) → n ≡ counted p.counter → top ≡ limit → Ok u ≡ admitting_raise p.supply.power n top → counted w ≡ left_count d (counted p.counter) (stepped limit (counted p.counter)) → d ≡ drawing p.supply → s ≡ drawn p.supply → r ≡ cut_told d (fault PowerCut Memory) → (r ≡ (raising (meaning_of means counted limit p)).0) × (◌≡◌ {A = Mem} (mem (map means (vec_items p.cells)) (counted w) limit s) (raising (meaning_of means counted limit p)).1)
-raise-part means counted limit p n top u w d s r n-is top-is admits e d-is s-is told =
-    let may : Ok u ≡ admitting_raise p.supply.power (counted p.counter) limit = rw (n-is, top-is) at admits in
-    let up = raise_through (map means (vec_items p.cells)) (counted p.counter) limit p.supply u may in
-    let next = cond-true (ltb (counted p.counter) limit) (counted p.counter + 1) (counted p.counter) (gate_open p.supply.power (ltb (counted p.counter) limit) (fault PowerOff Memory) (fault CountFull Memory) u may).1 in
-    halves (raising (meaning_of means counted limit p)) r (cut_told d (fault PowerCut Memory)) _ (cc) told
+module _ {R C : Type 0} (means : R → Row) (counted : C → ℕ) (limit : ℕ) (p : Part R C) (n top : ℕ) (u : Unit {0}) (w : C) (d : Result (Unit {0}) Tear) (s : Supply) (r : Result (Unit {0}) Fault) (n-is : n ≡ counted p.counter) (top-is : top ≡ limit) (admits : Ok u ≡ admitting_raise p.supply.power n top) (e : counted w ≡ left_count d (counted p.counter) (stepped limit (counted p.counter))) (d-is : d ≡ drawing p.supply) (s-is : s ≡ drawn p.supply) (told : r ≡ cut_told d (fault PowerCut Memory)) where
+  raise-part : (r ≡ (raising (meaning_of means counted limit p)).0) × (◌≡◌ {A = Mem} (mem (map means (vec_items p.cells)) (counted w) limit s) (raising (meaning_of means counted limit p)).1)
+  raise-part =
+      let may : Ok u ≡ admitting_raise p.supply.power (counted p.counter) limit = rw (n-is, top-is) at admits in
+      let up = raise_through (map means (vec_items p.cells)) (counted p.counter) limit p.supply u may in
+      let next = cond-true (ltb (counted p.counter) limit) (counted p.counter + 1) (counted p.counter) (gate_open p.supply.power (ltb (counted p.counter) limit) (fault PowerOff Memory) (fault CountFull Memory) u may).1 in
+      halves (raising (meaning_of means counted limit p)) r (cut_told d (fault PowerCut Memory)) _ (cc) told
 
-pub raise-part-answer : {R C : Type 0} (means : R → Row) (counted : C → ℕ) (limit : ℕ) (p : Part R C) (n top : ℕ) (u : Unit {0}) (w : C) (d : Result (Unit {0}) Tear) (s : Supply) (r : Result (Unit {0}) Fault) → n ≡ counted p.counter → top ≡ limit → Ok u ≡ admitting_raise p.supply.power n top → counted w ≡ left_count d (counted p.counter) (stepped limit (counted p.counter)) → d ≡ drawing p.supply → s ≡ drawn p.supply → r ≡ cut_told d (fault PowerCut Memory) → r ≡ (raising (meaning_of means counted limit p)).0
-raise-part-answer means counted limit p n top u w d s r n-is top-is admits e d-is s-is told = (raise-part means counted limit p n top u w d s r n-is top-is admits e d-is s-is told).0
+  pub raise-part-answer : r ≡ (raising (meaning_of means counted limit p)).0
+  raise-part-answer = raise-part.0
 
-pub raise-part-after : {R C : Type 0} (means : R → Row) (counted : C → ℕ) (limit : ℕ) (p : Part R C) (n top : ℕ) (u : Unit {0}) (w : C) (d : Result (Unit {0}) Tear) (s : Supply) (r : Result (Unit {0}) Fault) → n ≡ counted p.counter → top ≡ limit → Ok u ≡ admitting_raise p.supply.power n top → counted w ≡ left_count d (counted p.counter) (stepped limit (counted p.counter)) → d ≡ drawing p.supply → s ≡ drawn p.supply → r ≡ cut_told d (fault PowerCut Memory) → ◌≡◌ {A = Mem} (mem (map means (vec_items p.cells)) (counted w) limit s) (raising (meaning_of means counted limit p)).1
-raise-part-after means counted limit p n top u w d s r n-is top-is admits e d-is s-is told = (raise-part means counted limit p n top u w d s r n-is top-is admits e d-is s-is told).1
+  pub raise-part-after : ◌≡◌ {A = Mem} (mem (map means (vec_items p.cells)) (counted w) limit s) (raising (meaning_of means counted limit p)).1
+  raise-part-after = raise-part.1

@@ -19,6 +19,7 @@ pub enum Reply {
     Row(RowKind, [u8; ROW_BYTES]),
     Count(u32, u32),
     Rows(Vec<RowKind>),
+    // A slot by its number, and a version. Any numbers are printed, so the slot is no enum here.
     Loaded(u8, u64),
 }
 
@@ -41,7 +42,7 @@ impl<'a> fmt::Display for Hex<'a> {
     }
 }
 
-// A row's kind, before its bytes.
+// A row's kind, before its bytes. It is no `Display` of the kind: that is another crate's type, and printed in two ways.
 fn kind_text(kind: RowKind) -> &'static str
     ensures { result.now ≡ kind_text kind }
 {

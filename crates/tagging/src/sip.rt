@@ -120,6 +120,7 @@ fn filled(rest: &[u8], size: usize) -> u64
 }
 
 // The hash of a text. Its last word is made first, which leaves less to do behind the whole ones.
+#[tactic(auto, using(crate::proofs::Absorbing::hash_is))]
 fn hash(key: &[u8; KEY_BYTES], text: &[u8]) -> u64
     ensures { result ≡ sip_hash key.now text.now }
 {

@@ -1,10 +1,10 @@
 -- The shift of a block, the chain of blocks, and the padding. Assumes nothing.
-use Rattle.std.proofs.Common.{◌≡◌, ℕ, zero, suc, ◌+◌, ◌-◌, ◌*◌, ◌/◌, ◌%◌, ◌<◌, ◌≤◌, List, [], ◌∷◌, ◌++◌, length, take, drop, set, replicate, sym, refl, ap, ◌∙◌, mod-eq_of_lt, arith}
+use Rattle.std.proofs.Common.{◌≡◌, ℕ, zero, suc, ◌+◌, ◌-◌, ◌*◌, ◌/◌, ◌%◌, ◌<◌, List, [], ◌∷◌, ◌++◌, length, take, drop, set, replicate, sym, refl, ap, ◌∙◌, mod-eq_of_lt, arith}
 use Rattle.std.specs.Prelude.{bit_xor, slice_set, fold}
 use Rattle.std.specs.Simd.{first_chunks}
 use Rattle.std.proofs.Math.Nat.{div-div-eq-div-mul}
 use Rattle.std.specs.Int.Bits.{xor_zero_r}
-use Rattle.std.proofs.lemmas.List.{drop-replicate, set_at}
+use Rattle.std.proofs.lemmas.List.{take-take, drop-take, drop-replicate, set_at}
 use Rattle.std.proofs.lemmas.Nat.{div-add-mod'}
 use Rattle.aes.specs.Cipher.{xored}
 use Rattle.aes.specs.Mac.{doubled, padded, chained}
@@ -92,19 +92,27 @@ doubled_is a b c d ha hb hc hd =
     (shl_word c (d / 2147483648) hc (omega arith) ∙ ap (shl c) (top d hd)) (last a d ha hd)
 
 -- The blocks of a text before some place.
-take-chunks : (k m : ℕ) (text : List ℕ) → k ≤ m → take k (first_chunks 16 m text) ≡ first_chunks 16 k text
-take-chunks zero m text h = refl
-take-chunks (suc k) zero text h = absurd (omega arith)
-take-chunks (suc k) (suc m) text h = ap (λ bs. take 16 text ∷ bs) (take-chunks k m (drop 16 text) (omega arith))
+chunks_before : (k : ℕ) (text : List ℕ) → first_chunks 16 k (take (k * 16) text) ≡ first_chunks 16 k text
+chunks_before zero text = refl
+chunks_before (suc k) text =
+    let more : suc k * 16 ≡ 16 + k * 16 = omega arith in
+    ap (λ n. first_chunks 16 (suc k) (take n text)) more
+    ∙ ap (λ xs. xs ∷ first_chunks 16 k (drop 16 (take (16 + k * 16) text))) (take-take 16 (16 + k * 16) text (omega arith))
+    ∙ ap (λ xs. take 16 text ∷ first_chunks 16 k xs) (drop-take 16 (k * 16) text)
+    ∙ ap (λ bs. take 16 text ∷ bs) (chunks_before k (drop 16 text))
 
 chained_is : (cipher : List ℕ → List ℕ) (k : ℕ) (x text : List ℕ) → fold (λ y block. cipher (xored y block)) x (first_chunks 16 k text) ≡ chained cipher k x text
 chained_is cipher zero x text = refl
 chained_is cipher (suc k) x text = chained_is cipher k (cipher (xored x (take 16 text))) (drop 16 text)
 
-pub blocks-chained : (cipher : List ℕ → List ℕ) (k : ℕ) (x text : List ℕ) (bs : List (List ℕ)) → bs ≡ first_chunks 16 (length text / 16) text → k ≤ length text / 16
-    → fold (λ y block. cipher (xored y block)) x (take k bs) ≡ chained cipher k x text
-blocks-chained cipher k x text bs e h =
-    ap (λ z. fold (λ y block. cipher (xored y block)) x z) (ap (take k) e ∙ take-chunks k (length text / 16) text h) ∙ chained_is cipher k x text
+pub front_chained : (cipher : List ℕ → List ℕ) (k : ℕ) (x text front : List ℕ) (bs : List (List ℕ))
+    → bs ≡ first_chunks 16 (length front / 16) front → front ≡ take (k * 16) text → length front ≡ k * 16
+    → fold (λ y block. cipher (xored y block)) x bs ≡ chained cipher k x text
+front_chained cipher k x text front bs e f l =
+    let n : length front / 16 ≡ k = omega arith in
+    let blocks : bs ≡ first_chunks 16 k text =
+    e ∙ ap (λ m. first_chunks 16 m front) n ∙ ap (first_chunks 16 k) f ∙ chunks_before k text in
+    ap (λ z. fold (λ y block. cipher (xored y block)) x z) blocks ∙ chained_is cipher k x text
 
 -- The rest of a text in a cleared area, and one bit behind it.
 pub padded_is : (rest ys zs : List ℕ) → length rest < 16 → ys ≡ rest → zs ≡ replicate 16 0

@@ -1,5 +1,5 @@
 -- The rules of the tables, each tested at its 256 entries by one computation. Assumes nothing.
-use Rattle.std.proofs.Common.{◌≡◌, ℕ, ◌<◌, List, [], ◌∷◌, get_or, ap}
+use Rattle.std.proofs.Common.{◌≡◌, ℕ, ◌/◌, ◌<◌, List, [], ◌∷◌, get_or, ap, arith}
 use Rattle.aes.specs.Field.{sbox, mul}
 use Rattle.aes.specs.Tables.{sbox_table, first_table, second_table, third_table, fourth_table}
 use Rattle.aes.specs.Words.{word_bytes}
@@ -21,6 +21,12 @@ fourth_part s = s ∷ s ∷ mul 3 s ∷ mul 2 s ∷ []
 pub sbox_rule : (k : ℕ) → k < 256 → get_or sbox_table k 0 ≡ sbox k
 unfolding sbox mul
 sbox_rule k h = ap (λ (xs : List ℕ). get_or xs 0 0) (entry sbox_table (λ (x : ℕ). x ∷ []) (λ (k : ℕ). sbox k ∷ []) tt k h)
+
+-- An entry of the S-box is a byte.
+pub sbox_byte : (k : ℕ) → k < 256 → get_or sbox_table k 0 < 256
+sbox_byte k h =
+    let none = ap (λ (xs : List ℕ). get_or xs 0 0) (entry sbox_table (λ (x : ℕ). (x / 256) ∷ []) (λ (k : ℕ). 0 ∷ []) tt k h) in
+    omega arith
 
 pub first_rule : (k : ℕ) → k < 256 → word_bytes (get_or first_table k 0) ≡ first_part (sbox k)
 unfolding sbox mul word_bytes

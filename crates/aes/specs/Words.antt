@@ -3,9 +3,8 @@ use Rattle.std.specs.Prelude.{◌≡◌, ℕ, ◌+◌, ◌*◌, ◌/◌, ◌%◌
 use Rattle.std.proofs.Common.{sym, ap, ◌∙◌, mod-eq_of_lt, arith}
 use Rattle.std.proofs.Math.Nat.{div-div-eq-div-mul}
 use Rattle.std.proofs.lemmas.Nat.{div-add-mod'}
+use Rattle.aes.specs.Cipher.{column}
 use Rattle.aes.specs.declared.block.Block.TheInside.{Inside}
-use Rattle.aes.specs.Field.{sbox}
-use Rattle.aes.specs.Cipher.{xored, mix_column}
 
 -- The four bytes of a word.
 unfoldable pub word_bytes : ℕ → List ℕ
@@ -47,13 +46,6 @@ block_of_bytes b h =
     made : ℕ → ℕ → ℕ → ℕ → Inside
     made a b c d = record { a = a; b = b; c = c; d = d }
 
--- A column after SubBytes and ShiftRows, made of one byte of each of four columns.
-abbrev pub subbed : ℕ → ℕ → ℕ → ℕ → List ℕ
-subbed a b c d = sbox (a / 16777216 % 256) ∷ sbox (b / 65536 % 256) ∷ sbox (c / 256 % 256) ∷ sbox (d % 256) ∷ []
-
--- That column through a round, and through the last round, under a word of the round key.
-unfoldable pub round_column : ℕ → ℕ → ℕ → ℕ → ℕ → List ℕ
-round_column a b c d k = xored (mix_column (subbed a b c d)) (word_bytes k)
-
-unfoldable pub last_column : ℕ → ℕ → ℕ → ℕ → ℕ → List ℕ
-last_column a b c d k = xored (subbed a b c d) (word_bytes k)
+-- The four columns of a state.
+abbrev pub columns : List ℕ → List (List ℕ)
+columns s = column 0 s ∷ column 4 s ∷ column 8 s ∷ column 12 s ∷ []

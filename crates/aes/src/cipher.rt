@@ -1,16 +1,16 @@
 // AES-128: the round keys, the rounds, and a block under a key.
-ghost use Rattle.std.specs.Prelude.{◌≡◌, ◌<◌, ◌≤◌, length, fold, IfOk, IfErr};
+ghost use Rattle.std.specs.Prelude.{◌≡◌, ◌<◌, ◌≤◌, length, map, fold, IfOk, IfErr};
 ghost use Rattle.base.specs.Faults.{fault};
 ghost use Rattle.base.specs.declared.Case.TheVariants.{ShortArea};
 ghost use Rattle.base.specs.declared.Layer.TheVariants.{Common};
 ghost use Rattle.base.specs.Work.{zeros, after, work_bytes};
 ghost use Rattle.aes.specs.Calls.{in_room};
-ghost use Rattle.aes.specs.Cipher.{turned as turned_word, next_key, expanded, one_round, last_round, ciphered, aes};
+ghost use Rattle.aes.specs.Cipher.{sub_bytes, shift_rows, mix_column, turned as turned_word, next_key, expanded, one_round, last_round, ciphered, aes};
 ghost use Rattle.aes.specs.Field.{xtime as times_x};
-ghost use Rattle.aes.specs.Words.{word_bytes, round_column, last_column};
+ghost use Rattle.aes.specs.Words.{word_bytes, columns};
 
 use super::block::{BLOCK_BYTES, Block};
-use super::tables::{first, fourth, second, sub, third};
+use super::tables::{FIRST, FOURTH, SBOX, SECOND, THIRD};
 use base::{Case, Fault, Layer, Scratch, WORK_BYTES};
 
 // The round keys of a key: the first, nine for the rounds, and the last.
@@ -23,16 +23,33 @@ fn xtime(byte: u8) -> u8
     byte.wrapping_mul(2) ^ (byte / 128 * 0x1b)
 }
 
-// A word turned by a byte, through the S-box, and the round's constant.
+// A column through the S-box.
+fn subbed(column: [u8; 4]) -> u32
+    ensures { word_bytes result ≡ sub_bytes column }
+{
+    let [a, b, c, d] = column;
+    u32::from_be_bytes([
+        SBOX[usize::from(a)],
+        SBOX[usize::from(b)],
+        SBOX[usize::from(c)],
+        SBOX[usize::from(d)],
+    ])
+}
+
+// A column through the S-box, mixed.
+fn mixed(column: [u8; 4]) -> u32
+    ensures { word_bytes result ≡ mix_column (sub_bytes column) }
+{
+    let [a, b, c, d] = column;
+    FIRST[usize::from(a)] ^ SECOND[usize::from(b)] ^ THIRD[usize::from(c)] ^ FOURTH[usize::from(d)]
+}
+
+// A word turned by a byte, through the S-box, and the round's constant on its first byte.
 fn turned(word: u32, constant: u8) -> u32
     ensures { word_bytes result ≡ turned_word constant (word_bytes word) }
 {
-    u32::from_be_bytes([
-        sub((word >> 16) % 256) ^ constant,
-        sub((word >> 8) % 256),
-        sub(word % 256),
-        sub((word >> 24) % 256),
-    ])
+    let [a, b, c, d] = word.to_be_bytes();
+    subbed([b, c, d, a]) ^ (u32::from(constant) << 24)
 }
 
 // The round key after a round key.
@@ -60,48 +77,45 @@ pub(super) fn expand(key: &[u8; BLOCK_BYTES], keys: &mut RoundKeys)
     }
 }
 
-// A column of the next state, from one byte of each of four columns and a word of the round key.
-fn mixed(a: u32, b: u32, c: u32, d: u32, key: u32) -> u32
-    ensures { word_bytes result ≡ round_column a b c d key }
+// The columns of a state whose row r is shifted by r places to the left. The S-box takes each byte alone, and may come behind.
+fn shift_rows(s: Block) -> [[u8; 4]; 4]
+    ensures { map sub_bytes result ≡ columns (shift_rows (sub_bytes s)) }
 {
-    first((a >> 24) % 256) ^ second((b >> 16) % 256) ^ third((c >> 8) % 256) ^ fourth(d % 256) ^ key
+    let [a0, a1, a2, a3] = s.a.to_be_bytes();
+    let [b0, b1, b2, b3] = s.b.to_be_bytes();
+    let [c0, c1, c2, c3] = s.c.to_be_bytes();
+    let [d0, d1, d2, d3] = s.d.to_be_bytes();
+    [
+        [a0, b1, c2, d3],
+        [b0, c1, d2, a3],
+        [c0, d1, a2, b3],
+        [d0, a1, b2, c3],
+    ]
 }
 
-// A column of the last state, in the same way.
-fn unmixed(a: u32, b: u32, c: u32, d: u32, key: u32) -> u32
-    ensures { word_bytes result ≡ last_column a b c d key }
-{
-    u32::from_be_bytes([
-        sub((a >> 24) % 256),
-        sub((b >> 16) % 256),
-        sub((c >> 8) % 256),
-        sub(d % 256),
-    ]) ^ key
-}
-
-// A round: the rows are shifted by the choice of the columns.
-#[tactic(auto, using(crate::proofs::Columns::round_is))]
+// A round.
 fn one_round(s: Block, key: Block) -> Block
     ensures { result ≡ one_round s key }
 {
+    let [a, b, c, d] = shift_rows(s);
     Block {
-        a: mixed(s.a, s.b, s.c, s.d, key.a),
-        b: mixed(s.b, s.c, s.d, s.a, key.b),
-        c: mixed(s.c, s.d, s.a, s.b, key.c),
-        d: mixed(s.d, s.a, s.b, s.c, key.d),
+        a: mixed(a) ^ key.a,
+        b: mixed(b) ^ key.b,
+        c: mixed(c) ^ key.c,
+        d: mixed(d) ^ key.d,
     }
 }
 
 // The last round, which mixes no columns.
-#[tactic(auto, using(crate::proofs::Columns::last_is))]
 fn last_round(s: Block, key: Block) -> Block
     ensures { result ≡ last_round s key }
 {
+    let [a, b, c, d] = shift_rows(s);
     Block {
-        a: unmixed(s.a, s.b, s.c, s.d, key.a),
-        b: unmixed(s.b, s.c, s.d, s.a, key.b),
-        c: unmixed(s.c, s.d, s.a, s.b, key.c),
-        d: unmixed(s.d, s.a, s.b, s.c, key.d),
+        a: subbed(a) ^ key.a,
+        b: subbed(b) ^ key.b,
+        c: subbed(c) ^ key.c,
+        d: subbed(d) ^ key.d,
     }
 }
 

@@ -14,7 +14,7 @@ use base::{Fault, KEY_BYTES, Scratch, TAG_BYTES};
 use tagging::{Tagger, admit};
 
 /// The two subkeys of a key: for a whole last block, and for a padded one.
-#[derive(Clone, Copy)]
+#[derive(Clone, Copy, Debug, PartialEq, Eq)]
 pub struct Subkeys {
     pub first: [u8; BLOCK_BYTES],
     pub second: [u8; BLOCK_BYTES],
@@ -76,15 +76,15 @@ fn last_block(keys: &RoundKeys, rest: &[u8], spare: &mut [u8; BLOCK_BYTES]) -> B
     }
 }
 
-// The whole code of a text.
+// The whole code of a text. Its last block stands apart even where it is whole, since a subkey comes on it.
 fn mac(keys: &RoundKeys, text: &[u8], spare: &mut [u8; BLOCK_BYTES]) -> Block
     ensures { result ≡ mac_by (ciphered keys.now) text.now }
 {
     let before = text.len().saturating_sub(1) / BLOCK_BYTES;
-    let (blocks, _) = text.as_chunks();
-    let x = chain(keys, &blocks[..before]);
-    let last = last_block(keys, &text[before * BLOCK_BYTES..], spare);
-    encrypt(keys, x ^ last)
+    let (front, last) = text.split_at(before * BLOCK_BYTES);
+    let (blocks, _) = front.as_chunks();
+    let x = chain(keys, blocks);
+    encrypt(keys, x ^ last_block(keys, last, spare))
 }
 
 // The first eight bytes of the code of a text under a key.

@@ -1,49 +1,7 @@
 // The tables: the S-box, and what each byte of a column brings to the mixed column, through the S-box: four bytes in a word.
-ghost use Rattle.std.specs.Prelude.{◌≡◌, ◌<◌, slice_index};
-ghost use Rattle.aes.specs.Tables.{sbox_table, first_table, second_table, third_table, fourth_table};
-
-// The S-box at a byte.
-pub(super) fn sub(byte: u32) -> u8
-    requires { byte < 256 }
-    ensures { result ≡ slice_index sbox_table byte }
-{
-    SBOX[byte as usize]
-}
-
-// What the first byte of a column brings.
-pub(super) fn first(byte: u32) -> u32
-    requires { byte < 256 }
-    ensures { result ≡ slice_index first_table byte }
-{
-    FIRST[byte as usize]
-}
-
-// What the second byte of a column brings.
-pub(super) fn second(byte: u32) -> u32
-    requires { byte < 256 }
-    ensures { result ≡ slice_index second_table byte }
-{
-    SECOND[byte as usize]
-}
-
-// What the third byte of a column brings.
-pub(super) fn third(byte: u32) -> u32
-    requires { byte < 256 }
-    ensures { result ≡ slice_index third_table byte }
-{
-    THIRD[byte as usize]
-}
-
-// What the fourth byte of a column brings.
-pub(super) fn fourth(byte: u32) -> u32
-    requires { byte < 256 }
-    ensures { result ≡ slice_index fourth_table byte }
-{
-    FOURTH[byte as usize]
-}
 
 // The S-box.
-static SBOX: [u8; 256] = [
+pub(super) static SBOX: [u8; 256] = [
     0x63, 0x7c, 0x77, 0x7b, 0xf2, 0x6b, 0x6f, 0xc5, 0x30, 0x01, 0x67, 0x2b, 0xfe, 0xd7, 0xab, 0x76,
     0xca, 0x82, 0xc9, 0x7d, 0xfa, 0x59, 0x47, 0xf0, 0xad, 0xd4, 0xa2, 0xaf, 0x9c, 0xa4, 0x72, 0xc0,
     0xb7, 0xfd, 0x93, 0x26, 0x36, 0x3f, 0xf7, 0xcc, 0x34, 0xa5, 0xe5, 0xf1, 0x71, 0xd8, 0x31, 0x15,
@@ -63,7 +21,7 @@ static SBOX: [u8; 256] = [
 ];
 
 // What each first byte of a column brings.
-static FIRST: [u32; 256] = [
+pub(super) static FIRST: [u32; 256] = [
     0xc66363a5, 0xf87c7c84, 0xee777799, 0xf67b7b8d, 0xfff2f20d, 0xd66b6bbd, 0xde6f6fb1, 0x91c5c554,
     0x60303050, 0x02010103, 0xce6767a9, 0x562b2b7d, 0xe7fefe19, 0xb5d7d762, 0x4dababe6, 0xec76769a,
     0x8fcaca45, 0x1f82829d, 0x89c9c940, 0xfa7d7d87, 0xeffafa15, 0xb25959eb, 0x8e4747c9, 0xfbf0f00b,
@@ -99,7 +57,7 @@ static FIRST: [u32; 256] = [
 ];
 
 // What each second byte of a column brings.
-static SECOND: [u32; 256] = [
+pub(super) static SECOND: [u32; 256] = [
     0xa5c66363, 0x84f87c7c, 0x99ee7777, 0x8df67b7b, 0x0dfff2f2, 0xbdd66b6b, 0xb1de6f6f, 0x5491c5c5,
     0x50603030, 0x03020101, 0xa9ce6767, 0x7d562b2b, 0x19e7fefe, 0x62b5d7d7, 0xe64dabab, 0x9aec7676,
     0x458fcaca, 0x9d1f8282, 0x4089c9c9, 0x87fa7d7d, 0x15effafa, 0xebb25959, 0xc98e4747, 0x0bfbf0f0,
@@ -135,7 +93,7 @@ static SECOND: [u32; 256] = [
 ];
 
 // What each third byte of a column brings.
-static THIRD: [u32; 256] = [
+pub(super) static THIRD: [u32; 256] = [
     0x63a5c663, 0x7c84f87c, 0x7799ee77, 0x7b8df67b, 0xf20dfff2, 0x6bbdd66b, 0x6fb1de6f, 0xc55491c5,
     0x30506030, 0x01030201, 0x67a9ce67, 0x2b7d562b, 0xfe19e7fe, 0xd762b5d7, 0xabe64dab, 0x769aec76,
     0xca458fca, 0x829d1f82, 0xc94089c9, 0x7d87fa7d, 0xfa15effa, 0x59ebb259, 0x47c98e47, 0xf00bfbf0,
@@ -171,7 +129,7 @@ static THIRD: [u32; 256] = [
 ];
 
 // What each fourth byte of a column brings.
-static FOURTH: [u32; 256] = [
+pub(super) static FOURTH: [u32; 256] = [
     0x6363a5c6, 0x7c7c84f8, 0x777799ee, 0x7b7b8df6, 0xf2f20dff, 0x6b6bbdd6, 0x6f6fb1de, 0xc5c55491,
     0x30305060, 0x01010302, 0x6767a9ce, 0x2b2b7d56, 0xfefe19e7, 0xd7d762b5, 0xababe64d, 0x76769aec,
     0xcaca458f, 0x82829d1f, 0xc9c94089, 0x7d7d87fa, 0xfafa15ef, 0x5959ebb2, 0x4747c98e, 0xf0f00bfb,

@@ -4,7 +4,7 @@ use lib.ListN.{length-replicate}
 use lib.Seq.{take-append-le, drop-append-le}
 use Rattle.std.proofs.lemmas.List.{take_all, length-take-le}
 use Rattle.tagging.specs.declared.sip.State.{State}
-use Rattle.tagging.specs.Sip.{absorbed, absorbs, filling}
+use Rattle.tagging.specs.Sip.{started, absorbed, absorbs, finished, filling, sip_hash}
 use Rattle.tagging.specs.Words.{low_first, word_bytes}
 use Rattle.tagging.proofs.Numbers.{low_eight}
 use Rattle.std.specs.Int.{w64, from_le_bytes}
@@ -51,3 +51,15 @@ bytes_of_word n = ap (λ (k : ℕ). (k % 256) ∷ (n / 256 % 256) ∷ (n / 65536
 pub last-filled : (text : List ℕ)
     → take 8 (drop (length text / 8 * 8) text ++ filling (length text) (length text % 8)) ≡ drop (length text / 8 * 8) text ++ filling (length text) (length text % 8)
 last-filled text = take_all 8 _ (simp (length-append, length-replicate, length-drop) (omega arith))
+
+-- The hash, by a text's whole words and the one that fills what they leave.
+pub hash_is : (key text rest : List ℕ) (words : List (List ℕ)) → words ≡ first_chunks 8 (length text / 8) text → rest ≡ drop (length text / 8 * 8) text
+    → finished (absorbed (fold (λ t word. absorbed t (from_le_bytes w64 word)) (started key) words) (low_first (rest ++ filling (length text) (length rest)))) ≡ sip_hash key text
+unfolding sip_hash
+hash_is key text rest words e f =
+    let n : ℕ = length text / 8 in
+    let left : length rest ≡ length text % 8 = ap length f ∙ length-drop (n * 8) text ∙ omega arith in
+    let all = absorbs-all n (started key) text (omega arith) in
+    let last = absorbs-last n (started key) text (filling (length text) (length text % 8)) (omega arith) in
+    let filled = last-filled text in
+    ap finished (cc)

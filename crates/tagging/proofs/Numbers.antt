@@ -10,11 +10,11 @@ use Rattle.std.proofs.lemmas.List.{drop_more, drop_all}
 use Rattle.tagging.specs.Words.{low_first}
 
 -- One byte more, before those that are read.
-pub low-more : (bs : List ℕ) (i : ℕ) → i < length bs → low_first (drop i bs) ≡ get_or bs i 0 + 256 * low_first (drop (i + 1) bs)
+low-more : (bs : List ℕ) (i : ℕ) → i < length bs → low_first (drop i bs) ≡ get_or bs i 0 + 256 * low_first (drop (i + 1) bs)
 unfolding low_first
 low-more bs i h = ap low_first (drop_more bs i 0 h)
 
-pub low-none : (bs : List ℕ) (i : ℕ) → length bs ≤ i → low_first (drop i bs) ≡ 0
+low-none : (bs : List ℕ) (i : ℕ) → length bs ≤ i → low_first (drop i bs) ≡ 0
 unfolding low_first
 low-none bs i h = ap low_first (drop_all i bs h)
 

@@ -50,6 +50,7 @@ pub trait Tagger {
     ghost tag_of: { Self → List ℕ → List ℕ → List ℕ };
 
     /// Writes the tag to the first eight bytes of `out`, which may be a part of a larger area.
+    // Four parameters and no struct: key, text, `out` and `work` are lent apart, by different owners, and C hands the same four.
     fn tag(
         &self,
         key: &[u8; KEY_BYTES],

@@ -61,6 +61,7 @@ impl State {
         }
     }
 
+    #[tactic(auto, unfolding(crate::specs::Sip::sip_round))]
     fn round(self) -> State
         ensures { result ≡ sip_round self }
     {
@@ -68,6 +69,7 @@ impl State {
     }
 
     // Takes one word of the text in.
+    #[tactic(auto, unfolding(crate::specs::Sip::absorbed))]
     fn absorb(self, m: u64) -> State
         ensures { result ≡ absorbed self m }
     {
@@ -86,6 +88,7 @@ impl State {
             .fold(self, |s, word| s.absorb(u64::from_le_bytes(*word)))
     }
 
+    #[tactic(auto, unfolding(crate::specs::Sip::finished))]
     fn finish(self) -> u64
         ensures { result ≡ finished self }
     {
@@ -116,20 +119,13 @@ fn filled(rest: &[u8], size: usize) -> u64
     number | (size as u64) << 56
 }
 
-// The last word of a text, which its whole words leave.
-fn last_word(text: &[u8]) -> u64
-    ensures { result ≡ low_first (drop (length text.now / 8 * 8) text.now ++ filling (length text.now) (length text.now % 8)) }
-{
-    let (_, rest) = text.as_chunks::<WORD_BYTES>();
-    filled(rest, text.len())
-}
-
 // The hash of a text. Its last word is made first, which leaves less to do behind the whole ones.
+#[tactic(auto, using(crate::proofs::Absorbing::hash_is))]
 fn hash(key: &[u8; KEY_BYTES], text: &[u8]) -> u64
     ensures { result ≡ sip_hash key.now text.now }
 {
-    let last = last_word(text);
-    let (words, _) = text.as_chunks();
+    let (words, rest) = text.as_chunks();
+    let last = filled(rest, text.len());
     State::new(key).absorb_all(words).absorb(last).finish()
 }
 

@@ -1,14 +1,8 @@
-use Rattle.std.proofs.Common.{ap, ◌∙◌, arith}
-use Rattle.aes.specs.Words.{word_bytes, round_column}
+use Rattle.std.proofs.Common.{arith, rules}
 use Rattle.aes.proofs.Columns.{mixed_is}
-use Rattle.aes.proofs.Rules.{first_rule, second_rule, third_rule, fourth_rule}
 use Rattle.aes.proofs.cipher.mixed.Goals as goal
 
 pub returns : goal.returns
-unfolding round_column
 returns c =
-    mixed_is _ _ _ _ c.first.result c.second.result c.third.result c.fourth.result c.args.key
-    (ap word_bytes c.first.ensures ∙ first_rule _ (omega arith))
-    (ap word_bytes c.second.ensures ∙ second_rule _ (omega arith))
-    (ap word_bytes c.third.ensures ∙ third_rule _ (omega arith))
-    (ap word_bytes c.fourth.ensures ∙ fourth_rule _ (omega arith))
+    mixed_is c.args.column c.from.result c.from-2.result c.from-3.result c.from-4.result (omega arith) (λ i. search rules)
+    c.from.ensures c.from-2.ensures c.from-3.ensures c.from-4.ensures

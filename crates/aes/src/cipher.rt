@@ -108,7 +108,7 @@ fn one_round(s: Block, key: Block) -> Block
     }
 }
 
-// The last round, which mixes no columns.
+// The last round, which mixes no columns. With the step as a parameter, a contract would have to speak of any step's results.
 #[tactic(auto, using(crate::proofs::Columns::last_is))]
 fn last_round(s: Block, key: Block) -> Block
     ensures { result ≡ last_round s key }

@@ -78,27 +78,12 @@ turned_is w rcon s bs l e f =
     ∙ ap (λ v. xored v (rcon ∷ 0 ∷ 0 ∷ 0 ∷ [])) (f ∙ ap (λ v. sub_bytes (get_or v 1 0 ∷ get_or v 2 0 ∷ get_or v 3 0 ∷ get_or v 0 0 ∷ [])) e)
     ∙ cc
 
--- The columns where the rows are shifted, out of the bytes of the four before, through the S-box.
-abbrev shifted : List ℕ → List ℕ → List ℕ → List ℕ → List (List ℕ)
-shifted p q t u =
-    map sub_bytes ((get_or p 0 0 ∷ get_or q 1 0 ∷ get_or t 2 0 ∷ get_or u 3 0 ∷ [])
-    ∷ (get_or q 0 0 ∷ get_or t 1 0 ∷ get_or u 2 0 ∷ get_or p 3 0 ∷ [])
-    ∷ (get_or t 0 0 ∷ get_or u 1 0 ∷ get_or p 2 0 ∷ get_or q 3 0 ∷ [])
-    ∷ (get_or u 0 0 ∷ get_or p 1 0 ∷ get_or q 2 0 ∷ get_or t 3 0 ∷ []) ∷ [])
-
-pub shifted_is : (s : Inside) (p q t u : List ℕ) → p ≡ word_bytes s.a → q ≡ word_bytes s.b → t ≡ word_bytes s.c → u ≡ word_bytes s.d
-    → shifted p q t u ≡ columns (shift_rows (sub_bytes (bytes_of s)))
-unfolding shift_rows word_bytes
-shifted_is s p q t u e f g h =
-    ap (λ z. shifted z q t u) e ∙ ap (λ z. shifted (word_bytes s.a) z t u) f ∙ ap (λ z. shifted (word_bytes s.a) (word_bytes s.b) z u) g
-    ∙ ap (λ z. shifted (word_bytes s.a) (word_bytes s.b) (word_bytes s.c) z) h
-
+-- The column at a place, through the S-box.
 sub_at : (cs : List (List ℕ)) (i : ℕ) → sub_bytes (get_or cs i []) ≡ get_or (map sub_bytes cs) i []
 sub_at [] i = refl
 sub_at (c ∷ cs) zero = refl
 sub_at (c ∷ cs) (suc i) = sub_at cs i
 
--- The column at a place, through the S-box.
 at : (s : List ℕ) (cs : List (List ℕ)) (i : ℕ) → map sub_bytes cs ≡ columns (shift_rows (sub_bytes s)) → sub_bytes (get_or cs i []) ≡ get_or (columns (shift_rows (sub_bytes s))) i []
 at s cs i e = sub_at cs i ∙ ap (λ z. get_or z i []) e
 

@@ -78,6 +78,7 @@ pub(super) fn expand(key: &[u8; BLOCK_BYTES], keys: &mut RoundKeys)
 }
 
 // The columns of a state whose row r is shifted by r places to the left. The S-box takes each byte alone, and may come behind.
+#[tactic(auto, unfolding(crate::specs::Words::word_bytes, crate::specs::Cipher::shift_rows))]
 fn shift_rows(s: Block) -> [[u8; 4]; 4]
     ensures { map sub_bytes result ≡ columns (shift_rows (sub_bytes s)) }
 {
@@ -94,6 +95,7 @@ fn shift_rows(s: Block) -> [[u8; 4]; 4]
 }
 
 // A round.
+#[tactic(auto, using(crate::proofs::Columns::round_is))]
 fn one_round(s: Block, key: Block) -> Block
     ensures { result ≡ one_round s key }
 {
@@ -106,7 +108,8 @@ fn one_round(s: Block, key: Block) -> Block
     }
 }
 
-// The last round, which mixes no columns.
+// The last round, which mixes no columns. With the step as a parameter, a contract would have to speak of any step's results.
+#[tactic(auto, using(crate::proofs::Columns::last_is))]
 fn last_round(s: Block, key: Block) -> Block
     ensures { result ≡ last_round s key }
 {

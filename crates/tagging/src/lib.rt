@@ -28,6 +28,7 @@ pub fn admit(text: usize, out: usize, work: usize) -> Result<(), Fault>
 }
 
 /// Writes the tag of a text into the eight bytes of an area from a place on; every other byte stays.
+// A place beside a whole lent area, and no part of it, since what is promised is what the whole then holds.
 #[tactic(auto, using(crate::proofs::Places::part_length, crate::proofs::Places::part_put))]
 pub fn tag_from<T: Tagger>(
     tagger: &T,

@@ -31,7 +31,7 @@ fn tag_keyed<T: Tagger>(
     tagger.tag(key, text, out, work)
 }
 
-// Nothing, or the number of the fault.
+// Nothing, or the number of the fault: C is told numbers.
 fn number(answer: Result<(), Fault>) -> u32
     ensures { result ≡ shown answer }
 {
@@ -42,6 +42,7 @@ fn number(answer: Result<(), Fault>) -> u32
 }
 
 /// Writes the SipHash-2-4 tag to the first eight bytes of `out`: 0, or the number of the fault.
+// It differs from the next in its tagger alone: C calls each by a name.
 #[unsafe(no_mangle)]
 pub extern "C" fn neltobur_siphash(key: &[u8], text: &[u8], out: &mut [u8], work: &mut [u8]) -> u32
     ensures answer { result ≡ shown (keyed_answer (length key.now) (length text.now) (length out.old) (length work.old)) }

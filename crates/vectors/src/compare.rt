@@ -48,7 +48,7 @@ pub(crate) fn agreeing<T: Tagger, P: Fn(&[u8; 16], &[u8]) -> [u8; 8]>(tagger: &T
         state: 88172645463325252,
     };
     let mut count: usize = 0;
-    // Loops, since each text moves the numbers on.
+    // Loops and no chain: each text moves the numbers on, and of a closure that changes what it captures nothing is known.
     for len in 0..=LONGEST {
         for _ in 0..TEXTS {
             let key = numbers.bytes();

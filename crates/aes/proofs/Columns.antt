@@ -4,7 +4,7 @@ use Rattle.std.specs.Prelude.{map, bit_xor}
 use Rattle.std.specs.Int.Bits.{xor_zero_r}
 use Rattle.aes.specs.Cipher.{xored, sub_bytes, shift_rows, mix_column, mix_columns, one_round, last_round, turned, next_key}
 use Rattle.aes.specs.Field.{sbox}
-use Rattle.aes.specs.Tables.{sbox_table, first_table, second_table, third_table, fourth_table}
+use Rattle.aes.proofs.Lists.{sbox_table, first_table, second_table, third_table, fourth_table}
 use Rattle.aes.specs.declared.block.Block.TheInside.{Inside}
 use Rattle.aes.specs.Words.{word_bytes, bytes_of, columns}
 use Rattle.aes.proofs.Rules.{first_part, second_part, third_part, fourth_part, sbox_rule, sbox_byte, first_rule, second_rule, third_rule, fourth_rule}

@@ -1,3 +1,4 @@
+mod Lists
 pub mod Table
 pub mod Rules
 pub mod Words

@@ -1,7 +1,7 @@
 -- The rules of the tables, each tested at its 256 entries by one computation. Assumes nothing.
 use Rattle.std.proofs.Common.{◌≡◌, ℕ, ◌/◌, ◌<◌, List, [], ◌∷◌, get_or, ap, arith}
 use Rattle.aes.specs.Field.{sbox, mul}
-use Rattle.aes.specs.Tables.{sbox_table, first_table, second_table, third_table, fourth_table}
+use Rattle.aes.proofs.Lists.{sbox_table, first_table, second_table, third_table, fourth_table}
 use Rattle.aes.specs.Words.{word_bytes}
 use Rattle.aes.proofs.Table.{entry}
 

@@ -2,7 +2,6 @@ pub mod Field
 pub mod Cipher
 pub mod Mac
 pub mod Vectors
-pub mod Tables
 pub mod Words
 pub mod Calls
 pub mod Lengths

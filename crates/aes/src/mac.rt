@@ -14,7 +14,7 @@ use base::{Fault, KEY_BYTES, Scratch, TAG_BYTES};
 use tagging::{Tagger, admit};
 
 /// The two subkeys of a key: for a whole last block, and for a padded one.
-#[derive(Clone, Copy, Debug, PartialEq, Eq)]
+#[derive(Clone, Copy)]
 pub struct Subkeys {
     pub first: [u8; BLOCK_BYTES],
     pub second: [u8; BLOCK_BYTES],
@@ -41,7 +41,7 @@ fn first_subkey(keys: &RoundKeys) -> Block
     doubled(encrypt(keys, Block::from([0; BLOCK_BYTES])))
 }
 
-// Blocks of a text, one after the other. As a `fold` it takes 14 of 859 nanoseconds more for a text of 128 bytes.
+// Blocks of a text, one after the other. As a `fold` it takes 13 nanoseconds more than 859 for a text of 128 bytes.
 fn chain(keys: &RoundKeys, blocks: &[[u8; BLOCK_BYTES]]) -> Block
     ensures { result ≡ fold (λ x block. ciphered keys.now (xored x block)) zero_block blocks.now }
 {

@@ -1,14 +1,12 @@
 -- The shift of a block, the chain of blocks, and the padding. Assumes nothing.
-use Rattle.std.proofs.Common.{◌≡◌, ℕ, zero, suc, ◌+◌, ◌-◌, ◌*◌, ◌/◌, ◌%◌, ◌<◌, List, [], ◌∷◌, ◌++◌, length, take, drop, set, replicate, sym, refl, ap, ◌∙◌, mod-eq_of_lt, arith}
+use Rattle.std.proofs.Common.{◌≡◌, ℕ, zero, suc, ◌+◌, ◌-◌, ◌*◌, ◌/◌, ◌%◌, ◌<◌, List, [], ◌∷◌, ◌++◌, length, take, drop, set, replicate, sym, refl, ap, ◌∙◌, arith}
 use Rattle.std.specs.Prelude.{bit_xor, slice_set, fold}
 use Rattle.std.specs.Simd.{first_chunks}
-use Rattle.std.proofs.Math.Nat.{div-div-eq-div-mul}
 use Rattle.std.specs.Int.Bits.{xor_zero_r}
 use Rattle.std.proofs.lemmas.List.{take-take, drop-take, drop-replicate, set_at}
-use Rattle.std.proofs.lemmas.Nat.{div-add-mod'}
 use Rattle.aes.specs.Cipher.{xored}
 use Rattle.aes.specs.Mac.{doubled, padded, chained}
-use Rattle.aes.specs.Words.{word_bytes}
+use Rattle.aes.specs.Words.{word_bytes, word_whole}
 use Rattle.aes.proofs.Words.{xor_word, of_bytes, joined}
 
 -- The bytes of a word shifted by one bit, with a bit that comes in.
@@ -22,15 +20,6 @@ low : (x : ℕ) → x * 2 % 256 ≡ x * 2 - x / 128 * 256
 low x = omega arith
 
 -- A word out of its bytes.
-whole : (w : ℕ) → w < 4294967296 → w ≡ w / 16777216 % 256 * 16777216 + w / 65536 % 256 * 65536 + w / 256 % 256 * 256 + w % 256
-whole w h =
-    let p : w / 256 / 256 ≡ w / 65536 = div-div-eq-div-mul w 256 256 in
-    let q : w / 65536 / 256 ≡ w / 16777216 = div-div-eq-div-mul w 65536 256 in
-    let x : w / 256 ≡ w / 256 / 256 * 256 + w / 256 % 256 = sym (div-add-mod' (w / 256) 256) in
-    let y : w / 65536 ≡ w / 65536 / 256 * 256 + w / 65536 % 256 = sym (div-add-mod' (w / 65536) 256) in
-    let z : w / 16777216 % 256 ≡ w / 16777216 = mod-eq_of_lt (omega arith) in
-    omega arith
-
 shl_four : (a b c d t : ℕ) → a < 256 → b < 256 → c < 256 → d < 256 → t < 2
     → (a * 16777216 + b * 65536 + c * 256 + d) * 2 % 4294967296 + t
     ≡ (a * 2 % 256 + b / 128) * 16777216 + (b * 2 % 256 + c / 128) * 65536 + (c * 2 % 256 + d / 128) * 256 + (d * 2 % 256 + t)
@@ -45,7 +34,7 @@ shl_four a b c d t ha hb hc hd ht =
 shl_word : (w t : ℕ) → w < 4294967296 → t < 2 → word_bytes (w * 2 % 4294967296 + t) ≡ shl w t
 unfolding shl
 shl_word w t h k =
-    ap (λ (x : ℕ). word_bytes (x * 2 % 4294967296 + t)) (whole w h)
+    ap (λ (x : ℕ). word_bytes (x * 2 % 4294967296 + t)) (sym (word_whole w h))
     ∙ ap word_bytes (shl_four (w / 16777216 % 256) (w / 65536 % 256) (w / 256 % 256) (w % 256) t (omega arith) (omega arith) (omega arith) (omega arith) k)
     ∙ of_bytes _ _ _ _ (byte (w / 16777216 % 256) (w / 65536 % 256 / 128) (omega arith)) (byte (w / 65536 % 256) (w / 256 % 256 / 128) (omega arith))
     (byte (w / 256 % 256) (w % 256 / 128) (omega arith)) (byte (w % 256) t k)

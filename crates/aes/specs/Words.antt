@@ -26,7 +26,7 @@ abbrev pub block_of : List ℕ → Inside
 block_of bs = record { a = word_at 0 bs; b = word_at 4 bs; c = word_at 8 bs; d = word_at 12 bs }
 
 -- The bytes of a block write this block again.
-word_whole : (w : ℕ) → w < 2 ^ 32 → w / 16777216 % 256 * 16777216 + w / 65536 % 256 * 65536 + w / 256 % 256 * 256 + w % 256 ≡ w
+pub word_whole : (w : ℕ) → w < 2 ^ 32 → w / 16777216 % 256 * 16777216 + w / 65536 % 256 * 65536 + w / 256 % 256 * 256 + w % 256 ≡ w
 word_whole w h =
     let p : w / 256 / 256 ≡ w / 65536 = div-div-eq-div-mul w 256 256 in
     let q : w / 65536 / 256 ≡ w / 16777216 = div-div-eq-div-mul w 65536 256 in

@@ -76,7 +76,8 @@ fn last_block(keys: &RoundKeys, rest: &[u8], spare: &mut [u8; BLOCK_BYTES]) -> B
     }
 }
 
-// The whole code of a text. Its last block stands apart even where it is whole, since a subkey comes on it.
+// The whole code of a text. Its last block stands apart even where it is whole, since a subkey comes on it. Round keys and a
+// spare block are two parts of one lent area; a struct of both would be handed to this, `last_block` and `tag_bytes` alone.
 fn mac(keys: &RoundKeys, text: &[u8], spare: &mut [u8; BLOCK_BYTES]) -> Block
     ensures { result ≡ mac_by (ciphered keys.now) text.now }
 {

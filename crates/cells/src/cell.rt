@@ -45,7 +45,8 @@ pub enum PlainRow {
     Spoilt,
 }
 
-/// A row of the flash part. Its mark is a byte of the memory, not an enum: a cut may leave any value.
+/// A row of the flash part.
+// Its mark is no enum: it is a byte of the memory, which may hold any value, and all but two mean spoilt.
 #[derive(Clone, Copy, Debug, PartialEq, Eq)]
 pub struct FlashRow {
     mark: u8,

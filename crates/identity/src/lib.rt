@@ -23,6 +23,7 @@ pub trait Identity {
         ensures { result ≡ id_bytes self.now };
 
     /// Whether these are its bytes.
+    // A method and no `==`: bytes are compared with an identity, and not two of one type.
     fn is(&self, bytes: &[u8; IDENTITY_BYTES]) -> bool
         ensures { result ≡ bytes_eq (id_bytes self.now) bytes.now }
     {

@@ -1,5 +1,5 @@
 -- A window shows what is put into its rows, and leaves all others. Assumes nothing.
-use Rattle.std.proofs.Common.{◌≡◌, ℕ, ◌+◌, ◌-◌, ◌<◌, ◌≤◌, min, List, length, get_or, take, drop, set, Ok, Err, Result, sym, refl, ap, ◌∙◌, subst, ⊎_elim, arith, length-drop, length-take, get_or-drop, get_or-take}
+use Rattle.std.proofs.Common.{◌≡◌, ℕ, ◌+◌, ◌-◌, ◌<◌, ◌≤◌, min, List, length, get_or, take, drop, set, Err, Result, sym, refl, ap, ◌∙◌, subst, ⊎_elim, arith, length-drop, length-take, get_or-drop, get_or-take}
 use lib.Seq.{take-set-lt, drop-set-add}
 use Rattle.std.proofs.lemmas.Bool.Decides.{nat_tests}
 use Rattle.base.specs.declared.Case.TheVariants.{NoRow}
@@ -8,10 +8,10 @@ use Rattle.base.specs.declared.Fault.{Fault}
 use Rattle.base.specs.Faults.{fault_at}
 use Rattle.memory.specs.declared.RowKind.{RowKind}
 use Rattle.memory.specs.declared.window.Window.{Window}
-use Rattle.memory.specs.Model.{Row, blank, Held, Mem, Outcome, at, torn, reading, probing, putting, raising, powering_up}
+use Rattle.memory.specs.Model.{Row, blank, Held, Mem, Outcome, at, torn, reading, putting, raising, powering_up}
 use Rattle.memory.specs.Laws.{PutLaws, RaiseLaws, SupplyLaws}
 use Rattle.memory.specs.View.{view_of, Bounded}
-use Rattle.memory.specs.Shown.{shown_held, shown_mem, renumber, Placed, Untouched}
+use Rattle.memory.specs.Shown.{shown_held, shown_mem, renumber, Untouched}
 use Rattle.memory.proofs.Laws.{put_laws, raise-laws, up_laws}
 
 pub shown-length : (f n : ℕ) (h : Held) → length (shown_held f n h).rows ≡ min n (length h.rows - f)

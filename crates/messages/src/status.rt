@@ -38,7 +38,7 @@ impl Status {
         })
     }
 
-    // The fields as those of a request for the status.
+    // The fields as those of a request for the status. The two kinds name two of them each in their own way, so each has its function.
     pub(crate) fn into_get_status<'a>(self) -> Message<'a>
         ensures { meant result ≡ get_status self.version self.identity self.count self.other self.tag }
     {

@@ -53,7 +53,7 @@ fn kind_text(kind: RowKind) -> &'static str
     }
 }
 
-// A row's kind as a letter.
+// A row's kind as a letter. No `From`: the kind is another crate's type, and so is `char`.
 fn kind_letter(kind: RowKind) -> char
     ensures { result ≡ kind_letter kind }
 {

@@ -1,5 +1,5 @@
 // SipHash-2-4 and AES-128-CMAC once more, written another way and sharing no function with the taggers: the one on pairs of
-// 32-bit halves, the other with an S-box that is computed at each use. Slow, and only for comparison.
+// 32-bit halves and byte by byte, the other with an S-box that is computed at each use. Slow, and only for comparison.
 
 use std::iter::once;
 use std::ops::{Add, BitXor};
@@ -71,6 +71,9 @@ struct Sip {
     v1: Pair,
     v2: Pair,
     v3: Pair,
+    // The bytes of a word that is not full yet.
+    word: [u8; 8],
+    held: usize,
 }
 
 impl Sip {
@@ -84,6 +87,8 @@ impl Sip {
             v1: second ^ Pair::new(0x646f7261, 0x6e646f6d),
             v2: first ^ Pair::new(0x6c796765, 0x6e657261),
             v3: second ^ Pair::new(0x74656462, 0x79746573),
+            word: [0; 8],
+            held: 0,
         }
     }
 
@@ -100,8 +105,17 @@ impl Sip {
         self.v2 = self.v2.rotate_left(32);
     }
 
-    fn take(&mut self, word: [u8; 8]) {
-        let m = Pair::from_le_bytes(word);
+    // Takes one byte, and every eighth time a word.
+    fn take(&mut self, byte: u8) {
+        if let Some(place) = self.word.get_mut(self.held) {
+            *place = byte;
+        }
+        if self.held < 7 {
+            self.held += 1;
+            return;
+        }
+        self.held = 0;
+        let m = Pair::from_le_bytes(self.word);
         self.v3 = self.v3 ^ m;
         self.round();
         self.round();
@@ -112,15 +126,14 @@ impl Sip {
 /// The tag of a text by SipHash-2-4.
 pub fn siphash(key: &[u8; 16], text: &[u8]) -> [u8; 8] {
     let mut sip = Sip::new(key);
-    let (words, rest) = text.as_chunks::<8>();
-    for word in words {
-        sip.take(*word);
+    for byte in text {
+        sip.take(*byte);
     }
-    // What is left, zeros, and the length as the last byte.
-    let mut last = [0; 8];
-    last[..rest.len()].copy_from_slice(rest);
-    last[7] = (text.len() % 256) as u8;
-    sip.take(last);
+    // Zeros up to the last byte of a word, which is the length.
+    for _ in 0..7 - text.len() % 8 {
+        sip.take(0);
+    }
+    sip.take((text.len() % 256) as u8);
     sip.v2 = sip.v2 ^ Pair::new(0, 0xff);
     for _ in 0..4 {
         sip.round();
@@ -128,36 +141,54 @@ pub fn siphash(key: &[u8; 16], text: &[u8]) -> [u8; 8] {
     (sip.v0 ^ sip.v1 ^ sip.v2 ^ sip.v3).to_le_bytes()
 }
 
-// The product of two bytes as polynomials, reduced by x^8 + x^4 + x^3 + x + 1 from the top.
+// The product of two bytes as polynomials, reduced by x^8 + x^4 + x^3 + x + 1 from the top. Loops: as chains of closures they
+// take three times as long.
 fn times(a: u8, b: u8) -> u8 {
-    let wide = (0..8u32)
-        .filter(|bit| (b >> *bit) % 2 == 1)
-        .fold(0, |sum, bit| sum ^ (u16::from(a) << bit));
-    let reduced = (0..7u32).rev().fold(wide, |left, bit| {
-        if (left >> (bit + 8)) % 2 == 1 {
-            left ^ (0x11b << bit)
-        } else {
-            left
+    let mut wide: u16 = 0;
+    for bit in 0..8u32 {
+        if (b >> bit) % 2 == 1 {
+            wide ^= u16::from(a) << bit;
         }
-    });
-    (reduced % 256) as u8
+    }
+    for bit in (0..7u32).rev() {
+        if (wide >> (bit + 8)) % 2 == 1 {
+            wide ^= 0x11b << bit;
+        }
+    }
+    (wide % 256) as u8
 }
 
-// The inverse, as the power 2 + 4 + .. + 128, which is 254; of 0 it is 0.
+// The inverse, as the power 254, whose bits are taken from the highest on; of 0 it is 0.
 fn inverse(byte: u8) -> u8 {
-    let mut square = byte;
     let mut power = 1;
-    for _ in 0..7 {
-        square = times(square, square);
-        power = times(power, square);
+    for i in 0..8u32 {
+        power = times(power, power);
+        if (254u8 << i) >= 128 {
+            power = times(power, byte);
+        }
     }
     power
+}
+
+// Bit i of a byte, counted from the lowest and around.
+fn bit(byte: u8, i: u32) -> u8 {
+    (byte >> (i % 8)) % 2
 }
 
 // The S-box: the inverse, and then a map of its bits.
 fn sub(byte: u8) -> u8 {
     let x = inverse(byte);
-    (1..5).fold(x ^ 0x63, |sum, bits| sum ^ x.rotate_left(bits))
+    let mut mapped = 0;
+    for i in 0..8u32 {
+        let sum = bit(x, i)
+            ^ bit(x, i + 4)
+            ^ bit(x, i + 5)
+            ^ bit(x, i + 6)
+            ^ bit(x, i + 7)
+            ^ bit(0x63, i);
+        mapped ^= sum << i;
+    }
+    mapped
 }
 
 // The sum of two blocks, bit by bit.
@@ -182,10 +213,15 @@ fn next_key(key: &[u8; 16], constant: u8) -> [u8; 16] {
     xor(&sums.to_be_bytes(), &block_of(&[turned; 4]))
 }
 
-// The columns of a state with its bytes replaced and its rows shifted.
+// The columns of a state with its bytes replaced and its rows shifted: byte r of column c comes out of column c + r.
 fn shifted(state: &[u8; 16]) -> [[u8; 4]; 4] {
-    let [a, b, c, d, e, f, g, h, i, j, k, l, m, n, o, p] = state.map(sub);
-    [[a, f, k, p], [e, j, o, d], [i, n, c, h], [m, b, g, l]]
+    let mut columns = [[0; 4]; 4];
+    for c in 0..4usize {
+        for r in 0..4usize {
+            columns[c][r] = sub(state[(4 * c + 5 * r) % 16]);
+        }
+    }
+    columns
 }
 
 // A column times the matrix that mixes it.

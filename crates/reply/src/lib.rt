@@ -142,9 +142,6 @@ struct ShortLine {
 }
 
 impl ShortLine {
-    ghost use Rattle.std.specs.Prelude.{◌++◌};
-    ghost use Rattle.reply.specs.Replies.{said, line_text};
-
     // Takes a command's name and its reply in, if they fit.
     #[tactic(auto, using(crate::proofs::Lines::then_text), unfolding(crate::specs::Replies::line_text))]
     fn print(&mut self, name: &[u8], reply: &Reply) -> fmt::Result
@@ -172,8 +169,6 @@ impl ShortLine {
 }
 
 impl fmt::Write for ShortLine {
-    ghost use Rattle.std.specs.Prelude.{◌++◌};
-
     ghost write_str_gives = { λ s bytes t. take t.len t.bytes ≡ take s.len s.bytes ++ bytes };
 
     fn write_str(&mut self, s: &str) -> fmt::Result {
